@@ -1,5 +1,7 @@
-ghost use Rattle.std.specs.Prelude.{◌≡◌};
-ghost use Rattle.fb_outside.specs.Memory.{fault_at};
+ghost use Rattle.std.specs.Prelude.{◌≡◌, IfOk, map};
+ghost use Rattle.fb_outside.specs.Memory.{fault_at, plain_fail};
+
+use std::alloc::{AllocError, Global};
 
 /// A call that fails, by its number: the calls of an object count from 0.
 #[derive(Clone, Copy, Debug, PartialEq, Eq)]
@@ -19,4 +21,17 @@ pub(crate) fn fault_in(fails: &[FailAt], call: u64) -> Option<bool>
         }
     }
     None
+}
+
+/// Plain failures at these calls.
+pub(crate) fn plain_fails(alloc: Global, calls: &[u64]) -> Result<Vec<FailAt>, AllocError>
+    ensures { IfOk result (λ fails. fails.items ≡ map plain_fail calls.now) }
+{
+    calls
+        .iter()
+        .map(|call| FailAt {
+            call: *call,
+            keep_new: false,
+        })
+        .collect(alloc)
 }

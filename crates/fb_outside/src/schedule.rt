@@ -1,6 +1,6 @@
 ghost use Rattle.std.specs.Prelude.{◌≡◌, IfOk, is_some, map};
 
-use crate::fail_at::{FailAt, fault_in};
+use crate::fail_at::{FailAt, fault_in, plain_fails};
 use std::alloc::{AllocError, Global};
 use std::marker::Model;
 
@@ -38,13 +38,7 @@ impl Schedule {
     pub(crate) fn at_calls(alloc: Global, calls: &[u64]) -> Result<Schedule, AllocError>
         ensures { IfOk result (λ s. s ≡ uncalled (map plain_fail calls.now)) }
     {
-        let fails = calls
-            .iter()
-            .map(|call| FailAt {
-                call: *call,
-                keep_new: false,
-            })
-            .collect(alloc)?;
+        let fails = plain_fails(alloc, calls)?;
         Ok(Schedule {
             fails,
             calls: 0,

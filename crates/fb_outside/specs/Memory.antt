@@ -80,19 +80,19 @@ pub record StoreState : Type 0 where
   pub counted : Counted
 
 -- the bytes of the file of this name
-abbrev pub entry_at : List Entry → List ℕ → Option (List ℕ)
-entry_at [] name = None
-entry_at (e ∷ es) name = if bytes_eq e.0 name then Some e.1 else entry_at es name
+abbrev pub bytes_in : List Entry → List ℕ → Option (List ℕ)
+bytes_in [] name = None
+bytes_in (e ∷ es) name = if bytes_eq name e.0 then Some e.1 else bytes_in es name
 
 -- the number of the file of this name
 abbrev pub place_of : List Entry → List ℕ → Option ℕ
 place_of [] name = None
-place_of (e ∷ es) name = if bytes_eq e.0 name then Some 0 else option_map (λ k. k + 1) (place_of es name)
+place_of (e ∷ es) name = if bytes_eq name e.0 then Some 0 else option_map (λ k. k + 1) (place_of es name)
 
 -- with these bytes at this name: at its place, or at the end where it is new
 abbrev pub put_entry : List Entry → List ℕ → List ℕ → List Entry
 put_entry [] name bytes = (name, bytes) ∷ []
-put_entry (e ∷ es) name bytes = if bytes_eq e.0 name then (e.0, bytes) ∷ es else e ∷ put_entry es name bytes
+put_entry (e ∷ es) name bytes = if bytes_eq name e.0 then (e.0, bytes) ∷ es else e ∷ put_entry es name bytes
 
 -- the name of the file of this number
 abbrev pub name_at : List Entry → ℕ → Option (List ℕ)
@@ -107,8 +107,11 @@ abbrev pub files_of : StoreState → Files
 files_of s = from_entries s.entries
 
 -- the reads, where there was room for each
+abbrev pub reads_in : List Entry → Noted → Option (List Look)
+reads_in es n = if n.over then None else Some (map (look_of es) n.notes)
+
 abbrev pub reads_of : StoreState → Option (List Look)
-reads_of s = if s.noted.over then None else Some (map (look_of s.entries) s.noted.notes)
+reads_of s = reads_in s.entries s.noted
 
 -- after a look at the file of a number, if there is one
 abbrev pub looked : Noted → Option ℕ → ℕ → ℕ → Noted

@@ -1,4 +1,6 @@
 ghost use Rattle.std.specs.Prelude.{◌≡◌, ◌-◌, ◌<◌, ◌≤◌, length, IfOk, IfSome, OnOk, OnErr, map, min, take, drop, option_map, unwrap_or};
+ghost use Rattle.std.specs.FinMap.{from_entries};
+ghost use Rattle.fb_outside.specs.Files.{file_at};
 ghost use Rattle.fb_outside.specs.Names.{IsFileName};
 ghost use Rattle.fb_outside.specs.Memory.{place_of, put_entry};
 ghost use Rattle.fb_outside.specs.MemFiles.{entry_of};
@@ -13,14 +15,15 @@ pub(crate) struct MemFile {
     pub(crate) bytes: Vec<u8>,
 }
 
-/// The number of the file of this name.
-pub(crate) fn find_file(files: &[MemFile], name: &str) -> Option<usize>
-    ensures place { result ≡ place_of (map entry_of files.now) name.now }
-    ensures within { IfSome result (λ file. file < length files.now) }
+/// The number of the file of this name, and its bytes.
+pub(crate) fn find_file<'a>(files: &'a [MemFile], name: &str) -> Option<(usize, &'a [u8])>
+    ensures place { option_map (λ found. found.0) result ≡ place_of (map entry_of files.now) name.now }
+    ensures bytes { option_map (λ found. found.1.now) result ≡ file_at (from_entries (map entry_of files.now)) name.now }
+    ensures within { IfSome result (λ found. found.0 < length files.now) }
 {
     for (i, file) in files.iter().enumerate() {
-        if file.name.as_str() == name {
-            return Some(i);
+        if name == file.name.as_str() {
+            return Some((i, file.bytes.as_slice()));
         }
     }
     None
@@ -39,7 +42,7 @@ pub(crate) fn keep_file(
 {
     let bytes = Vec::from_slice(alloc, bytes)?;
     match find_file(files.as_slice(), name) {
-        Some(file) => {
+        Some((file, _)) => {
             let file = &mut files[file];
             file.bytes = bytes;
         }

@@ -39,7 +39,7 @@ impl Model for MemStore {
 }
 
 impl MemStore {
-    ghost use Rattle.fb_outside.specs.Memory.{uncalled, unread, entry_at, name_at, files_of};
+    ghost use Rattle.fb_outside.specs.Memory.{uncalled, unread, name_at, files_of};
 
     /// A store with no file and no read, with room for the notes of `room` reads. The calls with the numbers
     /// of `fails` fail.
@@ -66,10 +66,12 @@ impl MemStore {
 
     /// The bytes of the file of this name.
     pub fn file(&self, name: &str) -> Option<&[u8]>
-        ensures file { option_map (λ bytes. bytes.now) result ≡ file_at (files_of self.now) name.now }
+        ensures { option_map (λ bytes. bytes.now) result ≡ file_at (files_of self.now) name.now }
     {
-        let file = find_file(self.files.as_slice(), name)?;
-        Some(self.files[file].bytes.as_slice())
+        match find_file(self.files.as_slice(), name) {
+            Some((_, bytes)) => Some(bytes),
+            None => None,
+        }
     }
 
     /// The name of the file of this number.
@@ -106,7 +108,7 @@ impl Store for MemStore {
             return Err(Failed);
         }
         match find_file(self.files.as_slice(), name) {
-            Some(file) => Ok(Some(self.files[file].bytes.len() as u64)),
+            Some((_, bytes)) => Ok(Some(bytes.len() as u64)),
             None => Ok(None),
         }
     }
@@ -127,21 +129,19 @@ impl Store for MemStore {
             counted = called self.old.counted } }
     {
         let fault = self.schedule.count();
-        let place = find_file(self.files.as_slice(), name);
-        if let Some(file) = place {
-            let length = buf.len() as u64;
-            self.notes.add(ReadNote { file, at, length });
-        }
+        let Some((file, bytes)) = find_file(self.files.as_slice(), name) else {
+            return if fault.is_some() { Err(Failed) } else { Ok(0) };
+        };
+        let length = buf.len() as u64;
+        self.notes.add(ReadNote { file, at, length });
         if fault.is_some() {
             return Err(Failed);
         }
-        match place {
-            Some(file) => Ok(give(self.files[file].bytes.as_slice(), at, buf)),
-            None => Ok(0),
-        }
+        Ok(give(bytes, at, buf))
     }
 
     fn put(&mut self, name: &str, bytes: &[u8]) -> Result<(), Trouble>
+        requires { IsFileName name.now }
         ensures cause { HasCause self.old.counted.faults self.new.counted.faults (IsErrOf result Trouble.Failed) }
         ensures ok { OnOk result (Puts (Some (files_of self.old)) (Some (files_of self.new)) name.now bytes.now) }
         ensures failed { IsErrOf result Trouble.Failed
@@ -158,8 +158,9 @@ impl Store for MemStore {
         if let Some(false) = fault {
             return Err(Trouble::Failed);
         }
-        if keep_file(self.alloc, &mut self.files, name, bytes).is_err() {
-            return Err(Trouble::OutOfMemory);
+        match keep_file(self.alloc, &mut self.files, name, bytes) {
+            Ok(()) => {}
+            Err(_) => return Err(Trouble::OutOfMemory),
         }
         match fault {
             Some(_) => Err(Trouble::Failed),

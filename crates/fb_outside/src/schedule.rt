@@ -1,4 +1,5 @@
-ghost use Rattle.std.specs.Prelude.{◌≡◌, IfOk, is_some, map};
+ghost use Rattle.std.specs.Prelude.{◌≡◌, ◌≤◌, IfOk, IsSome, map};
+ghost use Rattle.fb_outside.specs.Causes.{Rose};
 
 use crate::fail_at::{FailAt, fault_in, plain_fails};
 use std::alloc::{AllocError, Global};
@@ -50,6 +51,8 @@ impl Schedule {
     pub(crate) fn count(&mut self) -> Option<bool>
         ensures fault { result ≡ next_fault self.old }
         ensures after { self.new ≡ called self.old }
+        ensures later { self.old.faults ≤ self.new.faults }
+        ensures rose { IsSome result → Rose self.old.faults self.new.faults }
     {
         let fault = fault_in(self.fails.as_slice(), self.calls);
         self.calls = self.calls.saturating_add(1);

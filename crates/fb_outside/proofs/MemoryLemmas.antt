@@ -7,7 +7,7 @@ use Rattle.std.specs.List.{AllByRecursion}
 use Rattle.std.proofs.lemmas.List.{map-append, length-take-le}
 use Rattle.std.proofs.lemmas.Cmp.{nat_list_cmp_total}
 use Rattle.std.proofs.lemmas.Slice.Eq.{bytes_eq-Decides}
-use Rattle.fb_outside.specs.Files.{Files, file_at}
+use Rattle.fb_outside.specs.Files.{Files, file_at, Puts}
 use Rattle.fb_outside.specs.Reads.{Look, AddsRead}
 use Rattle.fb_outside.specs.Memory.{Entry, Noted, bytes_in, place_of, put_entry, name_at, look_of, noted, reads_in}
 use Rattle.fb_outside.specs.declared.read_note.ReadNote.{ReadNote}
@@ -184,3 +184,18 @@ takes_front bytes buf copied at n h is =
     let size : length copied ≡ n = ap length is ∙ length-take-le n (drop at bytes) fits in
     let front : take n (copied ++ drop n buf) ≡ copied = take_at copied (drop n buf) n size in
     sym (take-append-drop n (drop at bytes)) ∙ (λ i. sym (front ∙ is) i ++ drop-drop n at bytes i)
+
+-- what a put of an entry does to the map and to the reads
+pub puts_entry : (new es : List Entry) (name bytes : List ℕ) → new ≡ put_entry es name bytes
+    → Puts (Some (from_entries es)) (Some (from_entries new)) name bytes
+puts_entry new es name bytes h = ap Some (ap from_entries h ∙ from_entries-put_entry es name bytes)
+
+pub keeps_reads : (new es : List Entry) (name bytes : List ℕ) (n : Noted) → new ≡ put_entry es name bytes → AreWithin (length es) n.notes
+    → reads_in new n ≡ reads_in es n
+keeps_reads new es name bytes n h w =
+    ap (λ l. reads_in l n) h ∙ ap (λ l. cond n.over None (Some l)) (looks-put_entry es name bytes n.notes w)
+
+pub stays_within : (new es : List Entry) (name bytes : List ℕ) (notes : List ReadNote) → new ≡ put_entry es name bytes → AreWithin (length es) notes
+    → AreWithin (length new) notes
+stays_within new es name bytes notes h w =
+    AreWithin-more (length es) (length new) notes (rw h (length-put_entry es name bytes)) w

@@ -12,8 +12,8 @@ returns-in-Some-clause-ok c =
     let files = c.args.files.now.items in
     let file = c.in-Some.file in
     let was = c.index_mut-file.result.now in
-    let listed : c.as_slice.result.now ≡ files = c.as_slice.ensures.value in
-    let place : place_of (map entry_of files) c.args.name.now ≡ Some file = sym c.in-Some.ensures.place in
+    let place : place_of (map entry_of files) c.args.name.now ≡ Some file =
+        rw (← c.as_slice.ensures.value) (sym c.in-Some.ensures.place) in
     let read : entry_of was ≡ get_or (map entry_of files) file (entry_of was) =
         ap entry_of c.index_mut-file.ensures.value ∙ sym (get_or-map entry_of files file was) in
     map-set entry_of files file (record { name = was.name; bytes = c.in_ok-bytes.bytes })
@@ -24,7 +24,8 @@ returns-in-Some-clause-ok c =
 pub returns-in_ok-push-in-None-clause-ok : goal.returns-in_ok-push-in-None-clause-ok
 returns-in_ok-push-in-None-clause-ok c =
     let files = c.args.files.now.items in
-    let place : place_of (map entry_of files) c.args.name.now ≡ None = sym c.in-None.ensures.place in
+    let place : place_of (map entry_of files) c.args.name.now ≡ None =
+        rw (← c.as_slice.ensures.value) (sym c.in-None.ensures.place) in
     ap (map entry_of) c.in_ok-push-in-None.ensures.items
         ∙ map-append entry_of files (record { name = c.in_ok-name-in-None.name; bytes = c.in_ok-bytes.bytes } ∷ [])
         ∙ (λ i. map entry_of files ++ (c.in_ok-name-in-None.ensures i, c.in_ok-bytes.ensures.items i) ∷ [])

@@ -1,10 +1,9 @@
 -- The tests decide what a piece and a name are; and names put together.
-use Rattle.std.proofs.Common.{◌≡◌, ◌≢◌, ◌<◌, ◌≤◌, ◌+◌, ◌↔◌, ◌&&◌, ◌||◌, not, ℕ, Bool, true, false, cond, List, [], ◌∷◌, ◌++◌, length, eqb, IsTrue, All, nat_lt, nat_le, bytes_eq, refl, sym, ap, subst, ◌∙◌, arith, rules, length-append, append_assoc, if◌then◌else◌, ltb-true, leb-true, lt-ltb, le-leb, eqb-true}
+use Rattle.std.proofs.Common.{◌≡◌, ◌≢◌, ◌<◌, ◌≤◌, ◌&&◌, ◌||◌, not, ℕ, Bool, true, false, cond, List, [], ◌∷◌, ◌++◌, length, eqb, IsTrue, All, nat_lt, nat_le, bytes_eq, refl, sym, ap, subst, ◌∙◌, arith, if◌then◌else◌, ltb-true, leb-true, lt-ltb, le-leb, eqb-true}
 use Rattle.std.specs.List.{AllByRecursion, join_with_byte, list_all, slice_split}
 use Rattle.std.proofs.lemmas.List.Splits.{join_with_byte-slice_split, slice_split_none, slice_split_at, length-slice_split}
 use Rattle.std.proofs.lemmas.List.Elements.{All-from_recursion}
 use Rattle.std.proofs.lemmas.Slice.Eq.{bytes_eq-Decides}
-use Rattle.std.proofs.lemmas.Grind.{common_steps}
 use Rattle.fb_outside.specs.Names.{IsPiece, IsName, is_piece_byte, spelled}
 use Rattle.fb_outside.specs.NameTests.{is_piece, are_dots, are_joined, are_pieces}
 

@@ -4,3 +4,4 @@ pub mod StreamLemmas
 pub mod CauseLemmas
 pub mod FileLemmas
 pub mod ReadLemmas
+pub mod JoinLemmas

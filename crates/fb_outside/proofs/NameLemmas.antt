@@ -71,14 +71,14 @@ test-from_pieces most (p ∷ ps) h =
     and_true (is_piece most p) (list_all (is_piece most) ps) (test-from_IsPiece most p h.0) (test-from_pieces most ps h.1)
 
 -- no byte of a piece is a slash
-no_slash_byte : (b : ℕ) → is_piece_byte b ≡ true → eqb b 47 ≡ false
+pub no_slash_byte : (b : ℕ) → is_piece_byte b ≡ true → eqb b 47 ≡ false
 no_slash_byte b h =
     elim (eqb b 47) as (λ t. eqb b 47 ≡ t → t ≡ false) [
       | true ↦ λ e. let is : b ≡ 47 = eqb-true b 47 e in let no : false ≡ true = subst (λ x. is_piece_byte x ≡ true) is h in absurd (cc)
       | false ↦ λ e. refl
     ] refl
 
-no_slash-bytes : (p : List ℕ) → AllByRecursion (λ b. IsTrue (is_piece_byte b)) p → AllByRecursion (λ b. eqb b 47 ≡ false) p
+pub no_slash-bytes : (p : List ℕ) → AllByRecursion (λ b. IsTrue (is_piece_byte b)) p → AllByRecursion (λ b. eqb b 47 ≡ false) p
 no_slash-bytes [] h = tt
 no_slash-bytes (b ∷ bs) h = (no_slash_byte b h.0, no_slash-bytes bs h.1)
 

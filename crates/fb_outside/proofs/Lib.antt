@@ -5,3 +5,4 @@ pub mod CauseLemmas
 pub mod FileLemmas
 pub mod ReadLemmas
 pub mod JoinLemmas
+pub mod KnownLemmas

@@ -1,0 +1,295 @@
+use crate::{
+    FailAt, Failed, FileName, FolderStore, MemSink, MemSource, MemStore, ReadNote, Sink, Source,
+    StdSink, StdSource, Store, Trouble,
+};
+use std::fs;
+use std::io::{self, ErrorKind, Read, Write};
+use std::process::Abort;
+use std::test::Fail;
+
+const FOLDER: &str = "fb_outside_test";
+
+/// A name that is known to be one.
+fn named<R: Abort + AllocGlobal>(rt: &R, text: &str) -> FileName {
+    match FileName::from_str(rt.alloc(), text) {
+        Ok(Some(name)) => name,
+        _ => rt.panic("no name"),
+    }
+}
+
+/// Whether the text is a name, and then whether it is a path.
+fn check_name<R: Abort + AllocGlobal>(rt: &R, text: &str, is_name: bool, is_path: bool) {
+    match FileName::from_str(rt.alloc(), text) {
+        Err(_) => rt.panic("out of memory"),
+        Ok(None) => assert!(rt; !is_name, "{text}"),
+        Ok(Some(name)) => {
+            assert!(rt; is_name, "{text}");
+            assert!(rt; name.as_str() == text, "{text}");
+            assert!(rt; name.is_path() == is_path, "{text}");
+        }
+    }
+}
+
+#[test]
+fn knows_names_and_paths(rt: HostRuntime) -> Result<(), Fail> {
+    for (text, is_name, is_path) in [
+        ("a/b.csv", true, true),
+        ("/a", true, true),
+        ("-catalog.txt", true, true),
+        ("a/.b/c_d/...", true, true),
+        ("", false, false),
+        ("/", false, false),
+        ("a//b", false, false),
+        ("a/", false, false),
+        ("//a", false, false),
+        (".", false, false),
+        ("..", false, false),
+        ("a/../b", false, false),
+        ("a b", false, false),
+        ("a~", false, false),
+        ("\u{e9}", false, false),
+    ] {
+        check_name(&rt, text, is_name, is_path);
+    }
+    let name = named(&rt, "a/b.csv");
+    assert_eq!(rt; name.copy(rt.alloc())?.as_str(), name.as_str());
+    Ok(())
+}
+
+#[test]
+fn knows_lengths_of_names(rt: HostRuntime) -> Result<(), Fail> {
+    // A text, how often it comes, what comes behind it, and whether all that is a name and a path.
+    for (text, count, end, is_name, is_path) in [
+        ("p", 64, "", true, true),
+        ("p", 65, "", true, false),
+        ("p", 80, "", true, false),
+        ("p", 81, "", false, false),
+        ("ab/d", 50, "", true, true),
+        ("/ab/d", 40, "e", true, false),
+        ("ab/d", 75, "", true, false),
+        ("/ab/d", 60, "e", false, false),
+    ] {
+        let front = text.repeat(rt.alloc(), count)?;
+        let text = format!(in rt.alloc(); "{front}{end}")?;
+        check_name(&rt, text.as_str(), is_name, is_path);
+    }
+    Ok(())
+}
+
+#[test]
+fn takes_from_memory(rt: HostRuntime) -> Result<(), Fail> {
+    let mut source = MemSource::make(rt.alloc(), b"abcde", 2, &[1])?;
+    let mut buf = [0; 3];
+    assert_eq!(rt; source.take(&mut buf), Ok(2));
+    assert_eq!(rt; buf, *b"ab\0");
+    assert_eq!(rt; source.take(&mut buf), Err(Failed));
+    assert_eq!(rt; source.take(&mut buf[..1]), Ok(1));
+    assert_eq!(rt; source.take(&mut buf[..0]), Ok(0));
+    assert_eq!(rt; source.take(&mut buf), Ok(2));
+    assert_eq!(rt; buf, *b"de\0");
+    assert_eq!(rt; source.take(&mut buf), Ok(0));
+    Ok(())
+}
+
+#[test]
+fn puts_to_memory(rt: HostRuntime) -> Result<(), Fail> {
+    let mut sink = MemSink::make(rt.alloc(), &[1])?;
+    assert_eq!(rt; sink.put(b"x"), Ok(()));
+    assert_eq!(rt; sink.put(b"y"), Err(Trouble::Failed));
+    assert_eq!(rt; sink.written(), b"x".as_slice());
+    assert_eq!(rt; sink.put(b"z"), Ok(()));
+    assert_eq!(rt; sink.written(), b"xz".as_slice());
+    Ok(())
+}
+
+/// Whether the option has these bytes.
+fn has(found: Option<&[u8]>, bytes: &[u8]) -> bool {
+    match found {
+        None => false,
+        Some(found) => found == bytes,
+    }
+}
+
+fn is_named(found: Option<&FileName>, name: &str) -> bool {
+    match found {
+        None => false,
+        Some(found) => found.as_str() == name,
+    }
+}
+
+fn has_notes(found: Option<&[ReadNote]>, notes: &[ReadNote]) -> bool {
+    match found {
+        None => false,
+        Some(found) => found == notes,
+    }
+}
+
+/// Reads of at most four bytes from these places on give these bytes.
+fn check_reads<S: Store, R: Abort>(rt: &R, store: &mut S, name: &FileName, cases: &[(u64, &[u8])]) {
+    for (at, want) in cases {
+        let mut buf = [0; 4];
+        match store.read_at(name.as_str(), *at, &mut buf) {
+            Ok(n) => assert!(rt; &buf[..n] == *want, "at {at}"),
+            Err(_) => rt.panic("the outside failed"),
+        }
+    }
+}
+
+#[test]
+fn keeps_files_in_memory(rt: HostRuntime) -> Result<(), Fail> {
+    let (a, b) = (named(&rt, "d/a"), named(&rt, "d/b"));
+    let mut store = MemStore::make(rt.alloc(), &[], 5)?;
+    check_reads(&rt, &mut store, &a, &[(0, b"")]);
+    assert_eq!(rt; store.len(a.as_str()), Ok(None));
+    assert_eq!(rt; store.put(b.as_str(), b"b"), Ok(()));
+    assert_eq!(rt; store.put(a.as_str(), b"abcdef"), Ok(()));
+    assert_eq!(rt; store.put(b.as_str(), b"new"), Ok(()));
+    assert_eq!(rt; store.len(a.as_str()), Ok(Some(6)));
+    check_reads(&rt, &mut store, &a, &[(1, b"bcde"), (4, b"ef")]);
+    check_reads(
+        &rt,
+        &mut store,
+        &b,
+        &[(0, b"new"), (3, b""), (u64::MAX, b"")],
+    );
+    assert!(rt; has(store.file(b.as_str()), b"new"));
+    assert!(rt; store.file("d/c").is_none());
+    assert!(rt; is_named(store.name(0), "d/b") && is_named(store.name(1), "d/a"));
+    assert!(rt; store.name(2).is_none());
+    let notes = [(1, 1), (1, 4), (0, 0), (0, 3), (0, u64::MAX)].map(|(file, at)| ReadNote {
+        file,
+        at,
+        length: 4,
+    });
+    assert!(rt; has_notes(store.reads(), &notes));
+    check_reads(&rt, &mut store, &a, &[(0, b"abcd")]);
+    assert!(rt; store.reads().is_none());
+    Ok(())
+}
+
+#[test]
+fn fails_calls_in_memory(rt: HostRuntime) -> Result<(), Fail> {
+    let name = named(&rt, "a");
+    let a = name.as_str();
+    let fails = [(1, true), (1, false), (2, false), (3, false), (5, true)].map(|(
+        call,
+        keep_new,
+    )| FailAt { call, keep_new });
+    let mut store = MemStore::make(rt.alloc(), &fails, 9)?;
+    let mut buf = [0; 9];
+    assert_eq!(rt; store.put(a, b"0"), Ok(()));
+    assert_eq!(rt; store.put(a, b"1"), Err(Trouble::Failed));
+    assert!(rt; has(store.file(a), b"1"));
+    assert_eq!(rt; store.put(a, b"2"), Err(Trouble::Failed));
+    assert!(rt; has(store.file(a), b"1"));
+    assert_eq!(rt; store.read_at(a, 0, &mut buf), Err(Failed));
+    assert_eq!(rt; store.len(a), Ok(Some(1)));
+    assert_eq!(rt; store.len(a), Err(Failed));
+    let note = ReadNote {
+        file: 0,
+        at: 0,
+        length: 9,
+    };
+    assert!(rt; has_notes(store.reads(), &[note]));
+    Ok(())
+}
+
+/// Gives and takes one byte a call, and fails where no call is left.
+#[derive(Drop)]
+struct Slow {
+    calls: u32,
+}
+
+impl Slow {
+    fn step(&mut self) -> io::Result<()> {
+        if self.calls == 0 {
+            self.calls = 9;
+            return Err(ErrorKind::Interrupted.into());
+        }
+        self.calls -= 1;
+        Ok(())
+    }
+}
+
+impl Read for Slow {
+    fn read(&mut self, buf: &mut [u8]) -> io::Result<usize> {
+        self.step()?;
+        if buf.is_empty() {
+            return Ok(0);
+        }
+        buf[0] = b's';
+        Ok(1)
+    }
+}
+
+impl Write for Slow {
+    fn write(&mut self, buf: &[u8]) -> io::Result<usize> {
+        self.step()?;
+        Ok(buf.len().min(1))
+    }
+
+    fn flush(&mut self) -> io::Result<()> {
+        self.step()
+    }
+}
+
+#[test]
+fn adapts_streams(rt: HostRuntime) -> Result<(), Fail> {
+    let _ = fs::remove_file(&rt, "fb_outside_stream");
+    let mut sink = StdSink::make(fs::create(&rt, "fb_outside_stream")?);
+    assert_eq!(rt; sink.put(b"out"), Ok(()));
+    assert_eq!(rt; sink.put(b"side"), Ok(()));
+    drop(sink);
+    let mut source = StdSource::make(fs::open(&rt, "fb_outside_stream")?);
+    let mut buf = [0; 9];
+    assert_eq!(rt; source.take(&mut buf), Ok(7));
+    assert_eq!(rt; buf, *b"outside\0\0");
+    assert_eq!(rt; source.take(&mut buf), Ok(0));
+    fs::remove_file(&rt, "fb_outside_stream")?;
+    assert_eq!(rt; StdSink::make(io::writer(&rt)).put(b"a line\n"), Ok(()));
+    Ok(())
+}
+
+#[test]
+fn answers_a_fault_in_mid_stream(rt: HostRuntime) -> Result<(), Fail> {
+    let mut source = StdSource::make(Slow { calls: 1 });
+    let mut buf = [0; 2];
+    assert_eq!(rt; source.take(&mut buf), Ok(1));
+    assert_eq!(rt; source.take(&mut buf), Err(Failed));
+    assert_eq!(rt; source.take(&mut buf), Ok(1));
+    let mut sink = StdSink::make(Slow { calls: 5 });
+    assert_eq!(rt; sink.put(b"ab"), Ok(()));
+    assert_eq!(rt; sink.put(b"cd"), Err(Trouble::Failed));
+    assert_eq!(rt; sink.put(b"ef"), Ok(()));
+    Ok(())
+}
+
+#[test]
+fn adapts_folders(rt: HostRuntime) -> Result<(), Fail> {
+    let _ = fs::remove_dir_all(&rt, FOLDER);
+    let file = named(&rt, "fb_outside_test/a/b.csv");
+    let mut store = FolderStore::make(rt.clone()?, rt.alloc());
+    assert_eq!(rt; store.len(file.as_str()), Ok(None));
+    check_reads(&rt, &mut store, &file, &[(0, b"")]);
+    assert_eq!(rt; store.put(file.as_str(), b"old"), Ok(()));
+    assert_eq!(rt; store.put(file.as_str(), b"123456"), Ok(()));
+    assert_eq!(rt; store.len(file.as_str()), Ok(Some(6)));
+    let cases = [
+        (1, b"2345".as_slice()),
+        (4, b"56"),
+        (6, b""),
+        (u64::MAX, b""),
+    ];
+    check_reads(&rt, &mut store, &file, &cases);
+    // A folder in a file's place, and a file in a folder's, are faults, and no new file is left.
+    for text in ["fb_outside_test/a", "fb_outside_test/a/b.csv/c"] {
+        let name = named(&rt, text);
+        assert_eq!(rt; store.len(name.as_str()), Err(Failed));
+        assert_eq!(rt; store.read_at(name.as_str(), 0, &mut [0]), Err(Failed));
+        assert_eq!(rt; store.put(name.as_str(), b"x"), Err(Trouble::Failed));
+    }
+    assert!(rt; !fs::exists(&rt, "fb_outside_test/a~")?);
+    assert!(rt; fs::read(&rt, file.as_str())?.as_slice() == b"123456".as_slice());
+    fs::remove_dir_all(&rt, FOLDER)?;
+    Ok(())
+}

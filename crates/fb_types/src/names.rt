@@ -1,5 +1,5 @@
 ghost use Rattle.std.specs.Prelude.{◌≡◌, IfOk};
-ghost use Rattle.fb_types.specs.Names.{IsColumnName, column_name, continues_name, is_column_name, is_keyword};
+ghost use Rattle.fb_types.specs.Names.{IsColumnName, begins_name, column_name, continues_name, has_name_bytes, is_column_name, is_keyword};
 
 use std::alloc::{AllocError, Global};
 use std::marker::Model;
@@ -50,24 +50,30 @@ impl ColName {
     }
 }
 
+fn begins(byte: u8) -> bool
+    ensures { result ≡ begins_name byte }
+{
+    byte.is_ascii_lowercase() || byte == b'_'
+}
+
 fn continues(byte: u8) -> bool
     ensures { result ≡ continues_name byte }
 {
-    byte.is_ascii_lowercase() || byte == b'_' || byte.is_ascii_digit()
+    begins(byte) || byte.is_ascii_digit()
 }
 
 fn is_name(name: &[u8]) -> bool
     ensures { result ≡ is_column_name name.now }
 {
-    match name {
-        [] => false,
-        [first, rest @ ..] => {
-            !first.is_ascii_digit()
-                && continues(*first)
-                && rest.iter().all(|b| continues(*b))
-                && name.len() <= 64
-                && !is_reserved(name)
-        }
+    has_shape(name) && name.len() <= 64 && !is_reserved(name)
+}
+
+fn has_shape(name: &[u8]) -> bool
+    ensures { result ≡ has_name_bytes name.now }
+{
+    match name.split_first() {
+        None => false,
+        Some((first, rest)) => begins(*first) && rest.iter().all(|b| continues(*b)),
     }
 }
 
@@ -76,8 +82,9 @@ static RESERVED: [&str; 19] = [
     "exists", "count", "min", "max", "sum", "asc", "desc",
 ];
 
+#[tactic(auto, unfolding(crate::specs::Names::keywords))]
 fn is_reserved(name: &[u8]) -> bool
     ensures { result ≡ is_keyword name.now }
 {
-    RESERVED.iter().any(|word| word.as_bytes() == name)
+    RESERVED.iter().any(|word| name == word.as_bytes())
 }

@@ -46,7 +46,9 @@ impl Columns {
         ensures ok { OnOk result (self.new ≡ add_record self.old cells.items) }
         ensures err { OnErr result (self.new ≡ self.old) }
     {
-        Err(AllocError)
+        self.cells.extend(&cells)?;
+        self.rows += 1;
+        Ok(())
     }
 
     pub fn schema(&self) -> &Schema
@@ -54,6 +56,7 @@ impl Columns {
         ensures valid { IsSchema self.now.schema }
         ensures fits { AllFit self.now }
     {
+        let _ = self.schema.columns();
         &self.schema
     }
 

@@ -49,7 +49,8 @@ impl Schema {
     }
 
     pub fn copy(&self, alloc: Global) -> Result<Schema, AllocError>
-        ensures { IfOk result (λ s. s ≡ self.now) }
+        ensures value { IfOk result (λ s. s ≡ self.now) }
+        ensures valid { IsSchema self.now }
     {
         let mut columns = Vec::with_capacity(alloc, self.columns.len())?;
         for column in &self.columns {

@@ -84,6 +84,7 @@ impl CellStore {
         requires { IsStorable cell.now }
         ensures ok { OnOk result (self.new ≡ self.old ++ cell.now ∷ []) }
         ensures err { OnErr result (self.new ≡ self.old) }
+        ensures few { length self.new < 2 ^ 64 }
     {
         let slot = add_cell(&mut self.text, cell)?;
         self.slots.push(slot)?;
@@ -101,6 +102,7 @@ impl CellStore {
         requires { AllStorable cells.now }
         ensures ok { OnOk result (self.new ≡ self.old ++ cells.now) }
         ensures err { OnErr result (self.new ≡ self.old) }
+        ensures few { length self.new < 2 ^ 64 }
     {
         let len = self.len();
         for cell in cells {

@@ -56,7 +56,6 @@ impl Columns {
         ensures valid { IsSchema self.now.schema }
         ensures fits { AllFit self.now }
     {
-        let _ = self.schema.columns();
         &self.schema
     }
 
@@ -72,7 +71,8 @@ impl Columns {
         requires column { IsWholeColumn self.now.schema col }
         ensures { MatchOption result (cell_at self.now row col ≡ Cell.Null) (λ number. cell_at self.now row col ≡ Cell.Whole number) }
     {
-        None
+        let width = self.schema.columns().len();
+        self.cells.whole(row as usize * width + col)
     }
 
     /// The bytes of a cell of a category or text column, `None` where it is null.
@@ -81,6 +81,7 @@ impl Columns {
         requires column { IsWordColumn self.now.schema col }
         ensures { MatchOption result (cell_at self.now row col ≡ Cell.Null) (λ word. cell_at self.now row col ≡ Cell.Word word.now) }
     {
-        None
+        let width = self.schema.columns().len();
+        self.cells.word(row as usize * width + col)
     }
 }

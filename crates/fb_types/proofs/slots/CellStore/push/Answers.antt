@@ -1,6 +1,6 @@
-use Rattle.std.proofs.Common.{◌≡◌, ◌∙◌, ◌∷◌, [], ◌++◌, refl, rules}
+use Rattle.std.proofs.Common.{◌≡◌, ◌∙◌, ◌∷◌, [], ◌++◌, refl, rules, arith}
 use Rattle.fb_types.specs.Slots.{cells_in, text_of, AllInText}
-use Rattle.fb_types.proofs.SlotFacts.{AllInText-append, AllInText-grown, cells_in-append, cells_in-grown}
+use Rattle.fb_types.proofs.SlotFacts.{length-cells_in, AllInText-append, AllInText-grown, cells_in-append, cells_in-grown}
 use Rattle.fb_types.specs.contracts.slots.CellStore.{the_view}
 use Rattle.fb_types.proofs.slots.CellStore.push.Goals as goal
 
@@ -29,3 +29,15 @@ returns-clause-ok c =
     let added = cells_in-append c.add_cell.new.text.items c.self.inside.slots.items (c.in_ok-slot.slot ∷ []) in
     let value = kept.value in
     rw (← c.self.view_is, c.in_ok-push.ensures.items, added, old, value) refl
+
+pub returns-in_err-slot-clause-few : goal.returns-in_err-slot-clause-few
+returns-in_err-slot-clause-few c =
+    omega (arith, length-cells_in c.add_cell.new.text.items c.self.inside.slots.items)
+
+pub returns-in_err-push-clause-few : goal.returns-in_err-push-clause-few
+returns-in_err-push-clause-few c =
+    omega (arith, length-cells_in c.add_cell.new.text.items c.push.new.self.items)
+
+pub returns-clause-few : goal.returns-clause-few
+returns-clause-few c =
+    omega (arith, length-cells_in c.add_cell.new.text.items c.push.new.self.items)

@@ -1,4 +1,6 @@
 ghost use Rattle.std.specs.Prelude.{◌≡◌, IfOk};
+ghost use Rattle.std.specs.List.{list_all, list_any};
+ghost use Rattle.std.specs.Str.{bytes_eq, str_to_ascii_lowercase};
 ghost use Rattle.fb_types.specs.Names.{IsColumnName, begins_name, column_name, continues_name, has_name_bytes, is_column_name, is_keyword};
 
 use std::alloc::{AllocError, Global};
@@ -26,7 +28,7 @@ impl ColName {
     pub fn from_bytes(alloc: Global, bytes: &[u8]) -> Result<Option<ColName>, AllocError>
         ensures { IfOk result (λ found. found ≡ column_name bytes.now) }
     {
-        let bytes: Vec<u8> = bytes.iter().map(|b| b.to_ascii_lowercase()).collect(alloc)?;
+        let bytes = lowered(alloc, bytes)?;
         if is_name(&bytes) {
             Ok(Some(ColName { bytes }))
         } else {
@@ -73,11 +75,23 @@ fn has_shape(name: &[u8]) -> bool
 {
     match name.split_first() {
         None => false,
-        Some((first, rest)) => begins(*first) && rest.iter().all(|b| continues(*b)),
+        Some((first, rest)) => begins(*first) && all_continue(rest),
     }
 }
 
-static RESERVED: [&str; 19] = [
+fn all_continue(bytes: &[u8]) -> bool
+    ensures { result ≡ list_all continues_name bytes.now }
+{
+    bytes.iter().all(|b| continues(*b))
+}
+
+fn lowered(alloc: Global, bytes: &[u8]) -> Result<Vec<u8>, AllocError>
+    ensures { IfOk result (λ name. name.items ≡ str_to_ascii_lowercase bytes.now) }
+{
+    bytes.iter().map(|b| b.to_ascii_lowercase()).collect(alloc)
+}
+
+static KEYWORDS: [&str; 19] = [
     "select", "where", "order", "by", "limit", "and", "or", "xor", "not", "between", "in", "like",
     "exists", "count", "min", "max", "sum", "asc", "desc",
 ];
@@ -86,5 +100,16 @@ static RESERVED: [&str; 19] = [
 fn is_reserved(name: &[u8]) -> bool
     ensures { result ≡ is_keyword name.now }
 {
-    RESERVED.iter().any(|word| name == word.as_bytes())
+    is_one_of(name, &KEYWORDS)
+}
+
+fn is_one_of(name: &[u8], words: &[&str]) -> bool
+    ensures { result ≡ list_any (λ word. bytes_eq name.now word.now) words.now }
+{
+    for word in words {
+        if name == word.as_bytes() {
+            return true;
+        }
+    }
+    false
 }

@@ -47,12 +47,12 @@ IsLaidOut-append schema rows cells more laid fits one few =
     let Fits : List Cell → Type 0 = λ r. RecordFits r schema in
     let Every : List (List Cell) → Type 0 = λ records. All Fits records in
     let every : Every (rows_of (length schema) rows cells ++ more ∷ []) =
-        All-append Fits (rows_of (length schema) rows cells) (more ∷ []) laid.fits (All-one Fits more fits) in
+    All-append Fits (rows_of (length schema) rows cells) (more ∷ []) laid.fits (All-one Fits more fits) in
     record {
       valid = laid.valid;
       whole = omega (arith, laid.whole, one, length-append cells more);
       few = few;
-      fits = subst Every (sym (rows_of-more (length schema) rows cells more laid.whole one)) every
+      fits = subst Every (sym (rows_of-more (length schema) rows cells more laid.whole one)) every;
     }
 
 -- there are no more records than cells

@@ -29,5 +29,5 @@ returns c =
     let fits = record_fits c.self.inside.schema c.self.inside.rows c.self.inside.cells c.args.self.now c.args.row c.self.view_is c.self.invariant c.requires.row in
     let answer = whole_of_record (get_or c.args.self.now.records c.args.row []) c.args.self.now.schema c.args.col fits c.requires.column in
     let is : c.whole.result ≡ whole_in (cell_at c.args.self.now c.args.row c.args.col) =
-        rw (c.whole.ensures, c.columns-width.ensures.value) (ap whole_in found) in
+    rw (c.whole.ensures, c.columns-width.ensures.value) (ap whole_in found) in
     rw is answer

@@ -30,5 +30,5 @@ returns c =
     let fits = record_fits c.self.inside.schema c.self.inside.rows c.self.inside.cells c.args.self.now c.args.row c.self.view_is c.self.invariant c.requires.row in
     let answer = word_of_record (get_or c.args.self.now.records c.args.row []) c.args.self.now.schema c.args.col fits c.requires.column in
     let is : option_copied c.word.result ≡ word_in (cell_at c.args.self.now c.args.row c.args.col) =
-        rw (c.word.ensures, c.columns-width.ensures.value) (ap word_in found) in
+    rw (c.word.ensures, c.columns-width.ensures.value) (ap word_in found) in
     copied_word c.word.result (cell_at c.args.self.now c.args.row c.args.col) is answer

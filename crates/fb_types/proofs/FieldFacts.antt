@@ -59,15 +59,15 @@ below n (negsuc a) high ends big =
 capped_within : (z low high : ℤ) → neg_ℤ (pos (2 ^ 64)) <ℤ low → high <ℤ pos (2 ^ 64) → number_answer (Some (capped z)) (Some (low, high)) ≡ number_answer (Some z) (Some (low, high))
 capped_within (pos n) low high low_end high_end =
     elim (cases_lt n (2 ^ 64)) [
-      inl small ↦ ap (λ m. number_answer (Some (pos m)) (Some (low, high))) (omega arith)
+      | inl small ↦ ap (λ m. number_answer (Some (pos m)) (Some (low, high))) (omega arith)
       | inr big ↦ answer_outside (pos (min n (2 ^ 64))) low high (above (min n (2 ^ 64)) low high high_end (omega arith))
-      ∙ sym (answer_outside (pos n) low high (above n low high high_end big))
+          ∙ sym (answer_outside (pos n) low high (above n low high high_end big))
     ]
 capped_within (negsuc n) low high low_end high_end =
     elim (cases_lt n (2 ^ 64 - 1)) [
-      inl small ↦ ap (λ m. number_answer (Some (negsuc m)) (Some (low, high))) (omega arith)
+      | inl small ↦ ap (λ m. number_answer (Some (negsuc m)) (Some (low, high))) (omega arith)
       | inr big ↦ answer_outside (negsuc (min n (2 ^ 64 - 1))) low high (below (min n (2 ^ 64 - 1)) low high low_end (omega arith))
-      ∙ sym (answer_outside (negsuc n) low high (below n low high low_end big))
+          ∙ sym (answer_outside (negsuc n) low high (below n low high low_end big))
     ]
 
 capped_answer : (z : ℤ) (ty : ColType) → number_answer (Some (capped z)) (ends_of ty) ≡ number_answer (Some z) (ends_of ty)

@@ -13,5 +13,5 @@ loop-digit-preserved c =
     let digit = digit_value-ascii (get_or c.args.digits.now c.loop-digit.digit-index 0) ascii in
     record {
       digits = rw (all, c.loop-digit.invariant.digits, ascii) refl;
-      value = rw (c.min-value.ensures, c.from.ensures, c.loop-digit.invariant.value, more, digit) (cut_step (digits_value 10 (take c.loop-digit.digit-index c.args.digits.now)) (get_or c.args.digits.now c.loop-digit.digit-index 0 - 48))
+      value = rw (c.min-value.ensures, c.from.ensures, c.loop-digit.invariant.value, more, digit) (cut_step (digits_value 10 (take c.loop-digit.digit-index c.args.digits.now)) (get_or c.args.digits.now c.loop-digit.digit-index 0 - 48));
     }

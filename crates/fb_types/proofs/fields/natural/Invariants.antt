@@ -7,5 +7,5 @@ use Rattle.fb_types.proofs.fields.natural.Given as goal
 abbrev pub invariant-loop-digit : goal.invariant-loop-digit
 invariant-loop-digit l = record {
   digits : list_all is_ascii_digit (take l.digit-index l.digits) ≡ true;
-  value : l.value ≡ min (digits_value 10 (take l.digit-index l.digits)) (2 ^ 64)
+  value : l.value ≡ min (digits_value 10 (take l.digit-index l.digits)) (2 ^ 64);
 }

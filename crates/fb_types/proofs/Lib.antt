@@ -1,4 +1,6 @@
 pub mod CellFacts
 pub mod FieldFacts
+pub mod NameFacts
 pub mod RowFacts
 pub mod SlotFacts
+pub mod TextFacts

@@ -1,5 +1,5 @@
 -- Which cells a column of a type takes, and which records a schema.
-use Rattle.std.specs.Prelude.{ℕ, ◌≤◌, ℤ, ◌≤ℤ◌, Option, Some, None, List, [], ◌∷◌, length, MatchOption}
+use Rattle.std.specs.Prelude.{◌≤◌, ◌≤ℤ◌, List, [], ◌∷◌, length, MatchOption}
 use Rattle.fb_types.specs.declared.types.ColType.{ColType}
 use Rattle.fb_types.specs.declared.cells.Cell.{Cell}
 use Rattle.fb_types.specs.declared.cells.Cell.TheVariants.{Null, Whole, Word}

@@ -10,7 +10,7 @@ use std::alloc::{AllocError, Global};
 use std::marker::Model;
 
 /// Records under a schema, each of cells that fit it, seen as a `Table`.
-#[derive(Drop)]
+#[derive(Debug, Drop)]
 pub struct Columns {
     schema: Schema,
     rows: u64,

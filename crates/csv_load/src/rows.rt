@@ -1,0 +1,32 @@
+//! A reader over a byte slice, seen as the records that it has still to give.
+ghost use Rattle.std.specs.Prelude.{◌≡◌, [], ◌∷◌, true, if◌then◌else◌, IfOk};
+ghost use Rattle.csv.specs.Records.{fields_of};
+ghost use Rattle.csv_load.specs.RowsLeft.{IsPlain, rows_left, text_records};
+
+use csv::{ByteRecord, Reader, ReaderBuilder};
+use std::alloc::{AllocError, Global};
+
+/// A reader of the records of `bytes`: no header, commas, double quotes, records of any lengths.
+pub(crate) fn reader_over(alloc: Global, bytes: &[u8]) -> Reader<&[u8]>
+    ensures plain { IsPlain result }
+    ensures all { rows_left result ≡ text_records bytes.now }
+{
+    ReaderBuilder::new()
+        .has_headers(false)
+        .flexible(true)
+        .from_reader(alloc, bytes)
+}
+
+/// Reads the next record into `row`, and answers whether there was one.
+pub(crate) fn next_row(rdr: &mut Reader<&[u8]>, row: &mut ByteRecord) -> Result<bool, AllocError>
+    requires { IsPlain rdr.old }
+    ensures plain { IfOk result (λ found. found ≡ true → IsPlain rdr.new) }
+    ensures row {
+        IfOk result (λ found. rows_left rdr.old ≡ (if found then fields_of row.new ∷ rows_left rdr.new else []))
+    }
+{
+    let Ok(found) = rdr.read_byte_record(row) else {
+        return Err(AllocError);
+    };
+    Ok(found)
+}

@@ -1,0 +1,5 @@
+pub mod Causes
+pub mod Streams
+pub mod Files
+pub mod Reads
+pub mod Names

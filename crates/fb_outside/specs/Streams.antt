@@ -1,0 +1,19 @@
+-- What a source has left and what a sink has taken. A meaning is None where the object doesn't tell it.
+use Rattle.std.specs.Prelude.{◌≡◌, ℕ, List, [], ◌++◌, take, Option, IfSome, option_map}
+
+-- the bytes were taken from the front of what was left
+abbrev pub Takes : Option (List ℕ) → Option (List ℕ) → List ℕ → Type 0
+Takes old new bytes = old ≡ option_map (λ rest. bytes ++ rest) new
+
+-- nothing is left, where that is told
+abbrev pub IsAtEnd : Option (List ℕ) → Type 0
+IsAtEnd left = IfSome left (λ rest. rest ≡ [])
+
+-- the bytes were put behind what was written
+abbrev pub Grows : Option (List ℕ) → Option (List ℕ) → List ℕ → Type 0
+Grows old new bytes = new ≡ option_map (λ all. all ++ bytes) old
+
+-- some front of the bytes was put behind what was written
+pub record GrowsInPart (old new : Option (List ℕ)) (bytes : List ℕ) : Type 0 where
+  pub count : ℕ
+  pub front : Grows old new (take count bytes)

@@ -1,1 +1,2 @@
 pub mod RecordsOfText
+pub mod TakenBytes

@@ -1,0 +1,48 @@
+-- What the field of a whole column says.
+use Rattle.std.specs.Prelude.{ℕ, Bool, ◌&&◌, ◌||◌, ◌==◌, ℤ, pos, neg_ℤ, int_le, Option, Some, None, List, [], ◌∷◌, drop, reverse, if◌then◌else◌}
+use Rattle.std.specs.List.{list_all, prefix_len}
+use Rattle.std.specs.Char.{is_ascii_digit}
+use Rattle.std.specs.Option.{option_map}
+use Rattle.std.specs.Str.Parse.{digits_value}
+use Rattle.fb_types.specs.declared.types.ColType.{ColType}
+use Rattle.fb_types.specs.declared.fields.FieldAnswer.{FieldAnswer}
+use Rattle.fb_types.specs.declared.fields.FieldAnswer.TheVariants.{Null, Value, NotWhole, OutOfRange}
+use Rattle.fb_types.specs.Types.{ends_of}
+
+-- a space or a tab
+abbrev pub is_blank : ℕ → Bool
+is_blank b = b == 32 || b == 9
+
+abbrev pub without_leading_blanks : List ℕ → List ℕ
+without_leading_blanks bytes = drop (prefix_len is_blank bytes) bytes
+
+-- the bytes without the blanks at both ends
+abbrev pub trimmed : List ℕ → List ℕ
+trimmed bytes = reverse (without_leading_blanks (reverse (without_leading_blanks bytes)))
+
+-- the number that one or more decimal digits write
+abbrev pub natural_of : List ℕ → Option ℕ
+natural_of [] = None
+natural_of (d ∷ ds) = if list_all is_ascii_digit (d ∷ ds) then Some (digits_value 10 (d ∷ ds)) else None
+
+-- the number that digits write, or digits after one `+` (43) or `-` (45)
+abbrev pub whole_of : List ℕ → Option ℤ
+whole_of [] = None
+whole_of (b ∷ bs) =
+    if b == 45 then option_map (λ n. neg_ℤ (pos n)) (natural_of bs)
+    else (option_map (λ n. pos n) (natural_of (if b == 43 then bs else b ∷ bs)))
+
+-- a number is a value where it keeps to the ends
+abbrev pub number_answer : Option ℤ → Option (ℤ × ℤ) → FieldAnswer
+number_answer None ends = NotWhole
+number_answer (Some number) None = OutOfRange
+number_answer (Some number) (Some ends) =
+    if int_le ends.0 number && int_le number ends.1 then Value number else OutOfRange
+
+abbrev pub text_answer : List ℕ → Option (ℤ × ℤ) → FieldAnswer
+text_answer [] ends = Null
+text_answer (b ∷ bs) ends = number_answer (whole_of (b ∷ bs)) ends
+
+-- what a field says at a whole type: null where it is blank, no whole number, a number beyond the ends, or a value
+abbrev pub field_answer : List ℕ → ColType → FieldAnswer
+field_answer field ty = text_answer (trimmed field) (ends_of ty)

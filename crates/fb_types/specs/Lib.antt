@@ -1,0 +1,9 @@
+pub mod Cells
+pub mod Field
+pub mod Names
+pub mod Rows
+pub mod SchemaText
+pub mod Schemas
+pub mod Slots
+pub mod Table
+pub mod Types

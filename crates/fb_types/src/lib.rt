@@ -1,0 +1,21 @@
+//! What a table's columns are: their types, names and schemas, the text that spells a schema, and cells kept by rows.
+#![tactic(auto)]
+
+mod cells;
+mod fields;
+mod labels;
+mod names;
+mod schema_text;
+mod schemas;
+mod slots;
+mod table;
+mod types;
+
+pub use cells::Cell;
+pub use fields::{FieldAnswer, parse_whole};
+pub use labels::Label;
+pub use names::ColName;
+pub use schema_text::{MetaFault, SchemaKind, parse_schema, print_schema};
+pub use schemas::{Column, Schema};
+pub use table::Columns;
+pub use types::ColType;

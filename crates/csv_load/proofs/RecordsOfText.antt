@@ -4,7 +4,8 @@ use Rattle.std.proofs.lemmas.Bool.{cases_Bool}
 use Rattle.csv.specs.Machine.{Read, after_end, ends_at_end, ends_with, field_after, fields_after, in_field, is_byte, is_end, next_record, start_field, start_record, step, carriage_return, line_feed}
 use Rattle.csv.specs.Reading.{is_bom, strip_bom, NextIs, ReadRecord, ReadsNext, default_config, pending_of, records, records_from, records_next}
 use Rattle.csv.specs.declared.reader.Reader.{Reader}
-use Rattle.csv_load.specs.RowsLeft.{IsPlain, bytes_left, records_left, rows_left, text_records}
+use Rattle.csv_load.specs.RowsLeft.{IsPlain, bytes_left, records_left, rows_left}
+use Rattle.csv_load.specs.Loaded.{text_records}
 use Rattle.csv.specs.declared.parser.Config.{Config}
 use Rattle.csv.specs.declared.parser.State.{State}
 use Rattle.csv.specs.declared.parser.State.TheVariants as st

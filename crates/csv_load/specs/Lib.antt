@@ -1,2 +1,4 @@
 pub mod Input
+pub mod Loaded
+pub mod Answers
 pub mod RowsLeft

@@ -7,10 +7,6 @@ use Rattle.csv.specs.declared.parser.State.{State}
 use Rattle.csv.specs.declared.reader.Reader.{Reader}
 use Rattle.csv.specs.declared.reader.Trim.TheVariants as trim
 
--- the records of a text, as `csv` defines them with no header, of any lengths, without a byte order mark at the start
-abbrev pub text_records : List ℕ → List (List (List ℕ))
-text_records bytes = records default_config (strip_bom bytes)
-
 -- the records of the bytes that are left, from the state that the reader is in
 unfoldable pub records_left : Option (List ℕ) → State → List (List (List ℕ))
 records_left None s = []

@@ -1,7 +1,9 @@
-//! Records of a CSV text, as the columns of a table.
+//! Input to columns: the bytes of an input, and the records of a CSV text as the columns of a table.
 #![tactic(auto)]
 
 mod input;
+mod load;
 mod rows;
 
 pub use input::{InputFault, read_input};
+pub use load::{RecordFault, RecordKind, records};

@@ -1,7 +1,8 @@
 //! A reader over a byte slice, seen as the records that it has still to give.
 ghost use Rattle.std.specs.Prelude.{◌≡◌, [], ◌∷◌, true, if◌then◌else◌, IfOk};
 ghost use Rattle.csv.specs.Records.{fields_of};
-ghost use Rattle.csv_load.specs.RowsLeft.{IsPlain, rows_left, text_records};
+ghost use Rattle.csv_load.specs.Loaded.{text_records};
+ghost use Rattle.csv_load.specs.RowsLeft.{IsPlain, rows_left};
 
 use csv::{ByteRecord, Reader, ReaderBuilder};
 use std::alloc::{AllocError, Global};

@@ -2,20 +2,14 @@
 use Rattle.std.specs.Prelude.{◌≡◌, ⊤, ℕ, List, Result, Err}
 use Rattle.fb_types.specs.declared.cells.Cell.{Cell}
 use Rattle.csv_load.specs.Loaded.{Fault}
-use Rattle.csv_load.specs.declared.load.CellFault.{CellFault}
-use Rattle.csv_load.specs.declared.load.CellFault.TheVariants as at_cell
-use Rattle.csv_load.specs.declared.load.FieldFault.{FieldFault}
-use Rattle.csv_load.specs.declared.load.FieldFault.TheVariants as at_field
+use Rattle.csv_load.specs.declared.fields.FieldFault.{FieldFault}
+use Rattle.csv_load.specs.declared.fields.FieldFault.TheVariants as at_field
 use Rattle.csv_load.specs.declared.load.RecordFault.{RecordFault}
 use Rattle.csv_load.specs.declared.load.RecordFault.TheVariants as at_record
-use Rattle.csv_load.specs.declared.load.RecordKind.{RecordKind}
+use Rattle.csv_load.specs.declared.fields.RecordKind.{RecordKind}
 
 -- the answer is the fault that is defined, unless memory ran out
-abbrev pub IsCellFault : CellFault → Result Cell RecordKind → Type 0
-IsCellFault (at_cell.Refused kind) defined = defined ≡ Err kind
-IsCellFault at_cell.OutOfMemory defined = ⊤
-
-abbrev pub IsFieldFault : FieldFault → Result (List Cell) (ℕ × RecordKind) → Type 0
+abbrev pub IsFieldFault : {A : Type 0} → FieldFault → Result A (ℕ × RecordKind) → Type 0
 IsFieldFault (at_field.Bad field kind) defined = defined ≡ Err (field, kind)
 IsFieldFault at_field.OutOfMemory defined = ⊤
 

@@ -9,8 +9,8 @@ use Rattle.fb_types.specs.declared.fields.FieldAnswer.{FieldAnswer}
 use Rattle.fb_types.specs.declared.fields.FieldAnswer.TheVariants as says
 use Rattle.fb_types.specs.declared.schemas.Column.{Column}
 use Rattle.fb_types.specs.declared.types.ColType.{ColType}
-use Rattle.csv_load.specs.declared.load.RecordKind.{RecordKind}
-use Rattle.csv_load.specs.declared.load.RecordKind.TheVariants.{FieldCount, NotWhole, OutOfRange, TextLength}
+use Rattle.csv_load.specs.declared.fields.RecordKind.{RecordKind}
+use Rattle.csv_load.specs.declared.fields.RecordKind.TheVariants.{FieldCount, NotWhole, OutOfRange, TextLength}
 
 -- the records of a text, each a list of fields, as `csv` defines them: no header, commas, double quotes, records of any
 -- lengths. A byte order mark at the start is dropped, and a blank line is no record.
@@ -38,6 +38,11 @@ unfoldable pub field_cells : List Column → List (List ℕ) → List (Result Ce
 field_cells [] fields = []
 field_cells (column ∷ columns) [] = []
 field_cells (column ∷ columns) (field ∷ fields) = field_cell column.ty field ∷ field_cells columns fields
+
+-- a value, or why it is missing with the number of its place
+abbrev pub numbered : {A E : Type 0} → ℕ → Result A E → Result A (ℕ × E)
+numbered n (Ok value) = Ok value
+numbered n (Err why) = Err (n, why)
 
 -- a list with these in front, where there is a list
 abbrev pub behind : {A E : Type 0} → List A → Result (List A) E → Result (List A) E

@@ -1,29 +1,15 @@
 ghost use Rattle.std.specs.Prelude.{◌≡◌, ◌^◌, ◌+◌, ◌<◌, ◌≤◌, Ok, IfOk, IfErr, OnOk, length, map};
-ghost use Rattle.csv.specs.Records.{fields_of};
-ghost use Rattle.fb_types.specs.Cells.{CellFits, RecordFits};
-ghost use Rattle.csv_load.specs.Answers.{IsCellFault, IsFieldFault, IsRecordFault};
-ghost use Rattle.csv_load.specs.Loaded.{all_or_first, field_cell, loaded, or_fault, record_cells};
+ghost use Rattle.csv_load.specs.Answers.{IsRecordFault};
+ghost use Rattle.csv_load.specs.Loaded.{all_or_first, loaded, or_fault, record_cells};
 ghost use Rattle.csv_load.specs.RowsLeft.{IsPlain, rows_left};
 ghost use Rattle.csv_load.specs.declared.load.RecordFault.TheVariants as at_record;
 
-use crate::rows::{next_row, reader_over};
+use crate::fields::{FieldFault, RecordKind, cells_of};
+use crate::rows::{next_row, reader_over, skip_rows};
 use csv::{ByteRecord, Reader};
-use fb_types::{Cell, ColType, Column, Columns, FieldAnswer, Label, Schema, parse_whole};
+use fb_types::{Columns, Schema};
 use std::alloc::{AllocError, Global};
 use thiserror::Error;
-
-/// What is wrong with a record.
-#[derive(Clone, Copy, Debug, PartialEq, Eq)]
-pub enum RecordKind {
-    /// There are fewer fields than columns, or more.
-    FieldCount,
-    /// The field of a whole column is no number.
-    NotWhole,
-    /// The number is outside the column's type.
-    OutOfRange,
-    /// The field of a category or text column has more than 65,535 bytes.
-    TextLength,
-}
 
 /// Why a text isn't loaded. Records and fields count from 1 in the whole text, records that are skipped too.
 #[derive(Debug, Drop, Error)]
@@ -46,20 +32,6 @@ impl From<AllocError> for RecordFault {
     }
 }
 
-// Why a field gives no cell.
-#[derive(Drop)]
-enum CellFault {
-    Refused(RecordKind),
-    OutOfMemory,
-}
-
-// Why a record gives no cells.
-#[derive(Drop)]
-enum FieldFault {
-    Bad { field: u32, kind: RecordKind },
-    OutOfMemory,
-}
-
 /// The records of a CSV text, without the first `skip`, under a schema: no header, fields parted by commas and
 /// quoted by double quotes, one for each column. The dropped records may be anything.
 pub fn records(alloc: Global, bytes: &[u8], schema: &Schema, skip: u64) -> Result<Columns, RecordFault>
@@ -67,5 +39,42 @@ pub fn records(alloc: Global, bytes: &[u8], schema: &Schema, skip: u64) -> Resul
     ensures records { IfOk result (λ columns. loaded bytes.now schema.now skip ≡ Ok columns.records) }
     ensures fault { IfErr result (λ fault. IsRecordFault fault (loaded bytes.now schema.now skip)) }
 {
-    Err(RecordFault::OutOfMemory)
+    let mut rdr = reader_over(alloc, bytes);
+    if !skip_rows(alloc, &mut rdr, skip)? {
+        return Ok(Columns::make(alloc, schema)?);
+    }
+    load_rows(alloc, &mut rdr, schema, skip)
+}
+
+// The rest of the records, of which the first has the number after `skipped`.
+fn load_rows(alloc: Global, rdr: &mut Reader<&[u8]>, schema: &Schema, skipped: u64) -> Result<Columns, RecordFault>
+    requires plain { IsPlain rdr.old }
+    requires fits { 0 < length (rows_left rdr.old) → skipped + length (rows_left rdr.old) < 2 ^ 64 }
+    ensures schema { IfOk result (λ columns. columns.schema ≡ schema.now) }
+    ensures records {
+        IfOk result (λ columns. all_or_first (skipped + 1) (map (record_cells schema.now) (rows_left rdr.old)) ≡ Ok columns.records)
+    }
+    ensures fault {
+        IfErr result (λ fault. IsRecordFault fault
+            (or_fault (all_or_first (skipped + 1) (map (record_cells schema.now) (rows_left rdr.old)))))
+    }
+{
+    let mut columns = Columns::make(alloc, schema)?;
+    let mut row = ByteRecord::new(alloc);
+    let mut number = skipped;
+    while next_row(rdr, &mut row)? {
+        number += 1;
+        match cells_of(alloc, schema.columns(), &row) {
+            Ok(cells) => columns.push(cells)?,
+            Err(FieldFault::Bad { field, kind }) => {
+                return Err(RecordFault::Bad {
+                    number,
+                    field,
+                    kind,
+                });
+            }
+            Err(FieldFault::OutOfMemory) => return Err(RecordFault::OutOfMemory),
+        }
+    }
+    Ok(columns)
 }

@@ -1,5 +1,5 @@
 //! A reader over a byte slice, seen as the records that it has still to give.
-ghost use Rattle.std.specs.Prelude.{◌≡◌, [], ◌∷◌, true, if◌then◌else◌, IfOk};
+ghost use Rattle.std.specs.Prelude.{◌≡◌, [], ◌∷◌, true, if◌then◌else◌, drop, IfOk};
 ghost use Rattle.csv.specs.Records.{fields_of};
 ghost use Rattle.csv_load.specs.Loaded.{text_records};
 ghost use Rattle.csv_load.specs.RowsLeft.{IsPlain, rows_left};
@@ -30,4 +30,21 @@ pub(crate) fn next_row(rdr: &mut Reader<&[u8]>, row: &mut ByteRecord) -> Result<
         return Err(AllocError);
     };
     Ok(found)
+}
+
+/// Reads past the next `count` records, and answers whether there were that many.
+pub(crate) fn skip_rows(alloc: Global, rdr: &mut Reader<&[u8]>, count: u64) -> Result<bool, AllocError>
+    requires { IsPlain rdr.old }
+    ensures plain { IfOk result (λ more. more ≡ true → IsPlain rdr.new) }
+    ensures rows {
+        IfOk result (λ more. drop count (rows_left rdr.old) ≡ (if more then rows_left rdr.new else []))
+    }
+{
+    let mut row = ByteRecord::new(alloc);
+    for _ in 0..count {
+        if !next_row(rdr, &mut row)? {
+            return Ok(false);
+        }
+    }
+    Ok(true)
 }

@@ -1,3 +1,4 @@
 pub mod FieldFacts
+pub mod LoadFacts
 pub mod RecordsOfText
 pub mod TakenBytes

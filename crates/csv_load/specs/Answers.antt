@@ -16,3 +16,8 @@ IsFieldFault at_field.OutOfMemory defined = ⊤
 abbrev pub IsRecordFault : RecordFault → Result (List (List Cell)) Fault → Type 0
 IsRecordFault (at_record.Bad number field kind) defined = defined ≡ Err (record { number = number; field = field; kind = kind })
 IsRecordFault at_record.OutOfMemory defined = ⊤
+
+-- the fault of a field, as that of the record of that number
+abbrev pub at_number : ℕ → FieldFault → RecordFault
+at_number number (at_field.Bad field kind) = at_record.Bad number field kind
+at_number number at_field.OutOfMemory = at_record.OutOfMemory

@@ -72,7 +72,10 @@ abbrev pub or_fault : Result (List (List Cell)) (ℕ × (ℕ × RecordKind)) →
 or_fault (Ok rows) = Ok rows
 or_fault (Err (number, (field, kind))) = Err (record { number = number; field = field; kind = kind })
 
--- the records of a text under a schema's columns, without the first `skip`, which may be anything; or the first fault
+-- the cells of these records, which count from n, or the first fault
+abbrev pub loaded_from : ℕ → List Column → List (List (List ℕ)) → Result (List (List Cell)) Fault
+loaded_from n columns rows = or_fault (all_or_first n (map (record_cells columns) rows))
+
+-- the cells of a text's records without the first `skip`, which may be anything, or the first fault
 unfoldable pub loaded : List ℕ → List Column → ℕ → Result (List (List Cell)) Fault
-loaded bytes columns skip =
-    or_fault (all_or_first (skip + 1) (map (record_cells columns) (drop skip (text_records bytes))))
+loaded bytes columns skip = loaded_from (skip + 1) columns (drop skip (text_records bytes))

@@ -1,6 +1,6 @@
-ghost use Rattle.std.specs.Prelude.{◌≡◌, ◌^◌, ◌+◌, ◌<◌, ◌≤◌, Ok, IfOk, IfErr, OnOk, length, map};
-ghost use Rattle.csv_load.specs.Answers.{IsRecordFault};
-ghost use Rattle.csv_load.specs.Loaded.{all_or_first, loaded, or_fault, record_cells};
+ghost use Rattle.std.specs.Prelude.{◌≡◌, ◌^◌, ◌+◌, ◌<◌, ◌≤◌, Ok, IfOk, IfErr, length};
+ghost use Rattle.csv_load.specs.Answers.{IsRecordFault, at_number};
+ghost use Rattle.csv_load.specs.Loaded.{loaded, loaded_from};
 ghost use Rattle.csv_load.specs.RowsLeft.{IsPlain, rows_left};
 ghost use Rattle.csv_load.specs.declared.load.RecordFault.TheVariants as at_record;
 
@@ -52,12 +52,9 @@ fn load_rows(alloc: Global, rdr: &mut Reader<&[u8]>, schema: &Schema, skipped: u
     requires fits { 0 < length (rows_left rdr.old) → skipped + length (rows_left rdr.old) < 2 ^ 64 }
     ensures schema { IfOk result (λ columns. columns.schema ≡ schema.now) }
     ensures records {
-        IfOk result (λ columns. all_or_first (skipped + 1) (map (record_cells schema.now) (rows_left rdr.old)) ≡ Ok columns.records)
+        IfOk result (λ columns. loaded_from (skipped + 1) schema.now (rows_left rdr.old) ≡ Ok columns.records)
     }
-    ensures fault {
-        IfErr result (λ fault. IsRecordFault fault
-            (or_fault (all_or_first (skipped + 1) (map (record_cells schema.now) (rows_left rdr.old)))))
-    }
+    ensures fault { IfErr result (λ fault. IsRecordFault fault (loaded_from (skipped + 1) schema.now (rows_left rdr.old))) }
 {
     let mut columns = Columns::make(alloc, schema)?;
     let mut row = ByteRecord::new(alloc);
@@ -66,15 +63,22 @@ fn load_rows(alloc: Global, rdr: &mut Reader<&[u8]>, schema: &Schema, skipped: u
         number += 1;
         match cells_of(alloc, schema.columns(), &row) {
             Ok(cells) => columns.push(cells)?,
-            Err(FieldFault::Bad { field, kind }) => {
-                return Err(RecordFault::Bad {
-                    number,
-                    field,
-                    kind,
-                });
-            }
-            Err(FieldFault::OutOfMemory) => return Err(RecordFault::OutOfMemory),
+            Err(fault) => return Err(in_record(fault, number)),
         }
     }
     Ok(columns)
+}
+
+// The fault of a field, as that of the record of that number.
+fn in_record(fault: FieldFault, number: u64) -> RecordFault
+    ensures { result ≡ at_number number fault }
+{
+    match fault {
+        FieldFault::Bad { field, kind } => RecordFault::Bad {
+            number,
+            field,
+            kind,
+        },
+        FieldFault::OutOfMemory => RecordFault::OutOfMemory,
+    }
 }

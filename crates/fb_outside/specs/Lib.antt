@@ -3,3 +3,6 @@ pub mod Streams
 pub mod Files
 pub mod Reads
 pub mod Names
+pub mod NameTests
+pub mod Memory
+pub mod MemFiles

@@ -19,7 +19,6 @@ find_bytes (e ∷ es) name = λ i. cond (sym (texts_ties name e.0) i) (Some e.1)
 pub file_at-from_entries : (es : List Entry) (name : List ℕ) → file_at (from_entries es) name ≡ bytes_in es name
 file_at-from_entries es name = get-from_entries nat_list_cmp_total es name ∙ find_bytes es name
 
-
 -- the place of a name is below the number of entries, and has that name
 pub place_name : (es : List Entry) (name : List ℕ) (k : ℕ) → place_of es name ≡ Some k → name_at es k ≡ Some name
 place_name [] name k h = absurd (cc)
@@ -45,7 +44,7 @@ pub put_entry_at : (es : List Entry) (name bytes : List ℕ) (k : ℕ) (e : Entr
 put_entry_at [] name bytes k e h is = absurd (cc)
 put_entry_at (x ∷ es) name bytes k e h is =
     elim (bytes_eq name x.0) as (λ b. bytes_eq name x.0 ≡ b → cond b (Some 0) (option_map (λ j. j + 1) (place_of es name)) ≡ Some k
-        → cond b ((x.0, bytes) ∷ es) (x ∷ put_entry es name bytes) ≡ set (x ∷ es) k (e.0, bytes)) [
+    → cond b ((x.0, bytes) ∷ es) (x ∷ put_entry es name bytes) ≡ set (x ∷ es) k (e.0, bytes)) [
       | true ↦ λ t p.
           let zero_is : 0 ≡ k = cc in
           let here : e ≡ x = is ∙ ap (λ j. get_or (x ∷ es) j e) (sym zero_is) in
@@ -66,7 +65,7 @@ pub put_entry_new : (es : List Entry) (name bytes : List ℕ) → place_of es na
 put_entry_new [] name bytes h = refl
 put_entry_new (x ∷ es) name bytes h =
     elim (bytes_eq name x.0) as (λ b. cond b (Some 0) (option_map (λ j. j + 1) (place_of es name)) ≡ None
-        → cond b ((x.0, bytes) ∷ es) (x ∷ put_entry es name bytes) ≡ x ∷ (es ++ (name, bytes) ∷ [])) [
+    → cond b ((x.0, bytes) ∷ es) (x ∷ put_entry es name bytes) ≡ x ∷ (es ++ (name, bytes) ∷ [])) [
       | true ↦ λ none. absurd (cc)
       | false ↦ λ none.
           elim (place_of es name) as (λ q. place_of es name ≡ q → option_map (λ j. j + 1) q ≡ None → x ∷ put_entry es name bytes ≡ x ∷ (es ++ (name, bytes) ∷ [])) [
@@ -80,25 +79,27 @@ bytes_in-put_entry : (es : List Entry) (name bytes q : List ℕ) → bytes_in (p
 bytes_in-put_entry [] name bytes q = refl
 bytes_in-put_entry (e ∷ es) name bytes q =
     elim (bytes_eq name e.0) as (λ b. bytes_eq name e.0 ≡ b → bytes_in (cond b ((e.0, bytes) ∷ es) (e ∷ put_entry es name bytes)) q
-        ≡ cond (bytes_eq q name) (Some bytes) (cond (bytes_eq q e.0) (Some e.1) (bytes_in es q))) [
+    ≡ cond (bytes_eq q name) (Some bytes) (cond (bytes_eq q e.0) (Some e.1) (bytes_in es q))) [
       | true ↦ λ t.
           let same : name ≡ e.0 = (bytes_eq-Decides name e.0).0 t in
           subst (λ n. cond (bytes_eq q n) (Some bytes) (bytes_in es q) ≡ cond (bytes_eq q name) (Some bytes) (cond (bytes_eq q n) (Some e.1) (bytes_in es q))) same
-              (shadowed (bytes_eq q name) (Some bytes) (Some e.1) (bytes_in es q))
+          (shadowed (bytes_eq q name) (Some bytes) (Some e.1) (bytes_in es q))
       | false ↦ λ t.
           ap (cond (bytes_eq q e.0) (Some e.1)) (bytes_in-put_entry es name bytes q)
-              ∙ swapped (bytes_eq q e.0) (bytes_eq q name) (Some e.1) (Some bytes) (bytes_in es q)
-                  (λ here there. apart q name e.0 t here there)
+          ∙ swapped (bytes_eq q e.0) (bytes_eq q name) (Some e.1) (Some bytes) (bytes_in es q)
+          (λ here there. apart q name e.0 t here there)
     ] refl
   where
     shadowed : {A : Type 0} (b : Bool) (x y z : A) → cond b x z ≡ cond b x (cond b y z)
     shadowed true x y z = refl
     shadowed false x y z = refl
+
     swapped : {A : Type 0} (a b : Bool) (x y z : A) → (a ≡ true → b ≡ true → ⊥) → cond a x (cond b y z) ≡ cond b y (cond a x z)
     swapped true true x y z h = absurd (h refl refl)
     swapped true false x y z h = refl
     swapped false true x y z h = refl
     swapped false false x y z h = refl
+
     apart : (q name k : List ℕ) → bytes_eq name k ≡ false → bytes_eq q k ≡ true → bytes_eq q name ≡ true → ⊥
     apart q name k unlike here there =
         let same : name ≡ k = sym ((bytes_eq-Decides q name).0 there) ∙ (bytes_eq-Decides q k).0 here in
@@ -109,9 +110,9 @@ pub from_entries-put_entry : (es : List Entry) (name bytes : List ℕ)
     → from_entries {R = slice_cmp nat_cmp} (put_entry es name bytes) ≡ insert (from_entries es) name bytes
 from_entries-put_entry es name bytes =
     same_map nat_list_cmp_total (slice_cmp-IsAntisymmetric nat_cmp-IsAntisymmetric) _ _ (λ q.
-        file_at-from_entries (put_entry es name bytes) q ∙ bytes_in-put_entry es name bytes q
-            ∙ sym (get-insert nat_list_cmp_total (from_entries es) name bytes q
-                ∙ (λ i. cond (sym (texts_ties q name) i) (Some bytes) (file_at-from_entries es q i))))
+    file_at-from_entries (put_entry es name bytes) q ∙ bytes_in-put_entry es name bytes q
+    ∙ sym (get-insert nat_list_cmp_total (from_entries es) name bytes q
+    ∙ (λ i. cond (sym (texts_ties q name) i) (Some bytes) (file_at-from_entries es q i))))
 
 -- the entries that are there keep their names
 pub name_at-put_entry : (es : List Entry) (name bytes : List ℕ) (k : ℕ) → k < length es → name_at (put_entry es name bytes) k ≡ name_at es k
@@ -150,13 +151,13 @@ pub looks-put_entry : (es : List Entry) (name bytes : List ℕ) (notes : List Re
 looks-put_entry es name bytes [] w = refl
 looks-put_entry es name bytes (note ∷ notes) w =
     λ i. record { name = unwrap_or (name_at-put_entry es name bytes note.file w.0 i) []; offset = note.at; room = note.length }
-        ∷ looks-put_entry es name bytes notes w.1 i
+    ∷ looks-put_entry es name bytes notes w.1 i
 
 -- told reads after one more note
 told_more : (over fits : Bool) (es : List Entry) (notes : List ReadNote) (note : ReadNote) (look : Look) → look_of es note ≡ look
     → IsSome (cond (over || not fits) None (Some (map (look_of es) (cond fits (notes ++ note ∷ []) notes))))
     → cond (over || not fits) None (Some (map (look_of es) (cond fits (notes ++ note ∷ []) notes)))
-        ≡ option_map (λ before. before ++ look ∷ []) (cond over None (Some (map (look_of es) notes)))
+    ≡ option_map (λ before. before ++ look ∷ []) (cond over None (Some (map (look_of es) notes)))
 told_more true fits es notes note look e h = absurd (cc)
 told_more false true es notes note look e h =
     ap Some (map-append (look_of es) notes (note ∷ []) ∙ ap (λ l. map (look_of es) notes ++ l ∷ []) e)
@@ -166,8 +167,8 @@ told_more false false es notes note look e h = absurd (cc)
 pub adds_note : (es : List Entry) (before : Noted) (files : Files) (name : List ℕ) (file offset room : ℕ)
     → place_of es name ≡ Some file → is_some (file_at files name) ≡ true
     → AddsRead (Some files) (reads_in es before)
-        (reads_in es (noted before (record { file = file; at = offset; length = room })))
-        (record { name = name; offset = offset; room = room })
+    (reads_in es (noted before (record { file = file; at = offset; length = room })))
+    (record { name = name; offset = offset; room = room })
 adds_note es before files name file offset room place there = record {
   added = (record { name = name; offset = offset; room = room }) ∷ [];
   each = ap (λ b. cond b ((record { name = name; offset = offset; room = room }) ∷ []) []) (sym there);

@@ -58,7 +58,7 @@ IsPiece-from_test most p h =
 pub test-from_IsPiece : (most : ℕ) (p : List ℕ) → IsPiece most p → is_piece most p ≡ true
 test-from_IsPiece most p h =
     and_true _ _ (and_true _ _ (and_true _ _ (lt-ltb 0 (length p) h.some) (le-leb (length p) most h.short)) (test-from_bytes p h.bytes))
-        (not_either _ _ (differs_test _ p (46 ∷ []) refl h.not_here) (differs_test _ p (46 ∷ 46 ∷ []) refl h.not_up))
+    (not_either _ _ (differs_test _ p (46 ∷ []) refl h.not_here) (differs_test _ p (46 ∷ 46 ∷ []) refl h.not_up))
 
 pieces-from_test : (most : ℕ) (ps : List (List ℕ)) → list_all (is_piece most) ps ≡ true → AllByRecursion (IsPiece most) ps
 pieces-from_test most [] h = tt
@@ -93,7 +93,7 @@ slice_split-join most [] some h = absurd (omega arith)
 slice_split-join most (p ∷ []) some h = slice_split_none (λ b. eqb b 47) p (no_slash most p h.0)
 slice_split-join most (p ∷ q ∷ ps) some h =
     slice_split_at (λ b. eqb b 47) p 47 (join_with_byte 47 (q ∷ ps)) (no_slash most p h.0) refl
-        ∙ ap (λ rest. p ∷ rest) (slice_split-join most (q ∷ ps) (omega arith) h.1)
+    ∙ ap (λ rest. p ∷ rest) (slice_split-join most (q ∷ ps) (omega arith) h.1)
 
 -- the first byte of joined pieces is no slash
 no_slash_first : (most : ℕ) (ps : List (List ℕ)) → 0 < length ps → AllByRecursion (IsPiece most) ps

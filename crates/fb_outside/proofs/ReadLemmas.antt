@@ -26,7 +26,7 @@ AddsReads-trans old mid new h k joined = record {
   each = joined h.added k.added h.each k.each;
   told = λ there.
       k.told there ∙ ap (option_map (λ before. before ++ k.added)) (h.told (option_map_told mid k.added new (k.told there) there))
-          ∙ map_twice old h.added k.added;
+      ∙ map_twice old h.added k.added;
 }
 
 -- less is said of the same reads
@@ -37,32 +37,32 @@ AddsReads-weaken old new f h = record { added = h.added; each = f h.added h.each
 pub AddsReads-same : {P : List Look → Type 0} (old new : Option (List Look)) → new ≡ old → P [] → AddsReads old new P
 AddsReads-same old new e p = record { added = []; each = p; told = λ _. e ∙ map_nil old }
 
-all_joined : {P : Look → Type 0} (xs ys : List Look) → AllByRecursion P xs → AllByRecursion P ys → AllByRecursion P (xs ++ ys)
-all_joined [] ys h k = k
-all_joined (x ∷ xs) ys h k = (h.0, all_joined xs ys h.1 k)
+all_joined : (P : Look → Type 0) (xs ys : List Look) → AllByRecursion P xs → AllByRecursion P ys → AllByRecursion P (xs ++ ys)
+all_joined P [] ys h k = k
+all_joined P (x ∷ xs) ys h k = (h.0, all_joined P xs ys h.1 k)
 
-pub all_weaken : {P Q : Look → Type 0} → ((x : Look) → P x → Q x) → (xs : List Look) → AllByRecursion P xs → AllByRecursion Q xs
-all_weaken f [] h = tt
-all_weaken f (x ∷ xs) h = (f x h.0, all_weaken f xs h.1)
+pub all_weaken : (P Q : Look → Type 0) → ((x : Look) → P x → Q x) → (xs : List Look) → AllByRecursion P xs → AllByRecursion Q xs
+all_weaken P Q f [] h = tt
+all_weaken P Q f (x ∷ xs) h = (f x h.0, all_weaken P Q f xs h.1)
 
-pub AddsOnly-trans : {P : Look → Type 0} (old mid new : Option (List Look)) → AddsOnly P old mid → AddsOnly P mid new → AddsOnly P old new
-AddsOnly-trans {P} old mid new h k = AddsReads-trans old mid new h k (λ xs ys p q. all_joined {P = P} xs ys p q)
+pub AddsOnly-trans : (P : Look → Type 0) (old mid new : Option (List Look)) → AddsOnly P old mid → AddsOnly P mid new → AddsOnly P old new
+AddsOnly-trans P old mid new h k = AddsReads-trans old mid new h k (λ xs ys p q. all_joined P xs ys p q)
 
-pub AddsOnly-weaken : {P Q : Look → Type 0} (old new : Option (List Look)) → ((x : Look) → P x → Q x) → AddsOnly P old new → AddsOnly Q old new
-AddsOnly-weaken {P} {Q} old new f h = AddsReads-weaken old new (λ xs p. all_weaken {P = P} {Q = Q} f xs p) h
+pub AddsOnly-weaken : (P Q : Look → Type 0) (old new : Option (List Look)) → ((x : Look) → P x → Q x) → AddsOnly P old new → AddsOnly Q old new
+AddsOnly-weaken P Q old new f h = AddsReads-weaken old new (λ xs p. all_weaken P Q f xs p) h
 
-pub AddsOnly-same : {P : Look → Type 0} (old new : Option (List Look)) → new ≡ old → AddsOnly P old new
-AddsOnly-same old new e = AddsReads-same old new e tt
+pub AddsOnly-same : (P : Look → Type 0) (old new : Option (List Look)) → new ≡ old → AddsOnly P old new
+AddsOnly-same P old new e = AddsReads-same old new e tt
 
 -- one look
-note_meets : {P : Look → Type 0} (files : Option Files) (look : Look) → P look → (added : List Look) → IsNoteOf files look added → AllByRecursion P added
-note_meets {P} None look p added (inl none) = subst (AllByRecursion P) (sym none) tt
-note_meets {P} None look p added (inr one) = subst (AllByRecursion P) (sym one) (p, tt)
-note_meets {P} (Some m) look p added h =
+note_meets : (P : Look → Type 0) (files : Option Files) (look : Look) → P look → (added : List Look) → IsNoteOf files look added → AllByRecursion P added
+note_meets P None look p added (inl none) = subst (AllByRecursion P) (sym none) tt
+note_meets P None look p added (inr one) = subst (AllByRecursion P) (sym one) (p, tt)
+note_meets P (Some m) look p added h =
     elim (is_some (file_at m look.name)) as (λ b. added ≡ cond b (look ∷ []) [] → AllByRecursion P added) [
       | true ↦ λ e. subst (AllByRecursion P) (sym e) (p, tt)
       | false ↦ λ e. subst (AllByRecursion P) (sym e) tt
     ] h
 
-pub AddsOnly-read : {P : Look → Type 0} (files : Option Files) (old new : Option (List Look)) (look : Look) → P look → AddsRead files old new look → AddsOnly P old new
-AddsOnly-read {P} files old new look p h = AddsReads-weaken old new (λ xs is. note_meets {P = P} files look p xs is) h
+pub AddsOnly-read : (P : Look → Type 0) (files : Option Files) (old new : Option (List Look)) (look : Look) → P look → AddsRead files old new look → AddsOnly P old new
+AddsOnly-read P files old new look p h = AddsReads-weaken old new (λ xs is. note_meets P files look p xs is) h

@@ -96,7 +96,8 @@ fn has_pieces(text: &[u8], most: usize) -> bool
 fn all_pieces(text: &[u8], most: usize) -> bool
     ensures { result ≡ are_joined most text.now }
 {
-    text.split(|b| *b == b'/').all(|piece| has_piece_form(piece, most))
+    text.split(|b| *b == b'/')
+        .all(|piece| has_piece_form(piece, most))
 }
 
 fn has_piece_form(piece: &[u8], most: usize) -> bool

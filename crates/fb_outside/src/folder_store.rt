@@ -37,6 +37,16 @@ impl<F: Files> FolderStore<F> {
             faults: Faults::none(),
         }
     }
+
+    /// Removes what a failed `put` may have left of its new file.
+    fn forget(&mut self, fresh: &str)
+        ensures { self.old ≤ self.new }
+    {
+        match fs::remove_file(&self.files, fresh) {
+            Err(error) if error.kind() != ErrorKind::NotFound => self.faults.raise(),
+            _ => {}
+        }
+    }
 }
 
 impl<F: Files> Store for FolderStore<F> {
@@ -74,6 +84,7 @@ impl<F: Files> Store for FolderStore<F> {
             Ok(()) => Ok(()),
             Err(_) => {
                 self.faults.raise();
+                self.forget(fresh.as_str());
                 Err(Trouble::Failed)
             }
         }

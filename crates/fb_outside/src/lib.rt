@@ -15,6 +15,8 @@ mod read_note;
 mod schedule;
 mod std_sink;
 mod std_source;
+#[cfg(test)]
+mod tests;
 mod writing;
 
 pub use fail_at::FailAt;

@@ -60,6 +60,7 @@ impl Sink for MemSink {
         // The calls that fail are those of the schedule, and they leave nothing.
         ensures fails { IsErrOf result Trouble.Failed → IsSome (next_fault self.old.counted) }
         ensures passes { IsOk result → IsNone (next_fault self.old.counted) }
+        ensures never { self.old.counted.fails ≡ [] → IsErrOf result Trouble.Failed → ⊥ }
         ensures counted { self.new.counted ≡ called self.old.counted }
         ensures kept { OnErr result (self.new.written ≡ self.old.written) }
     {

@@ -1,4 +1,4 @@
-ghost use Rattle.std.specs.Prelude.{◌≡◌, ◌+◌, ◌<◌, ◌≤◌, [], IfOk, OnErr, IsErr, length, map, take, min, Some, is_some, is_err};
+ghost use Rattle.std.specs.Prelude.{◌≡◌, ◌+◌, ◌<◌, ◌≤◌, [], IfOk, OnErr, IsErr, IsOk, length, map, take, min, Some, is_some, is_err};
 ghost use Rattle.fb_outside.specs.Causes.{HasCause};
 ghost use Rattle.fb_outside.specs.Streams.{Takes, IsAtEnd};
 
@@ -68,6 +68,7 @@ impl Source for MemSource {
         // The calls that fail are those of the schedule, and the others give all that may go.
         ensures fails { is_err result ≡ is_some (next_fault self.old.counted) }
         ensures gives { IfOk result (λ n. n ≡ min (min (length self.old.left) self.old.piece) (length buf.old)) }
+        ensures never { self.old.counted.fails ≡ [] → IsOk result }
         ensures counted { self.new.counted ≡ called self.old.counted }
         ensures piece { self.new.piece ≡ self.old.piece }
     {

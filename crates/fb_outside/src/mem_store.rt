@@ -102,6 +102,7 @@ impl Store for MemStore {
 
         // The calls that fail are those of the schedule.
         ensures fails { is_err result ≡ is_some (next_fault self.old.counted) }
+        ensures never { self.old.counted.fails ≡ [] → IsOk result }
         ensures after { self.new ≡ record self.old { counted = called self.old.counted } }
     {
         if self.schedule.count().is_some() {
@@ -124,9 +125,11 @@ impl Store for MemStore {
 
         // The calls that fail are those of the schedule.
         ensures fails { is_err result ≡ is_some (next_fault self.old.counted) }
+        ensures never { self.old.counted.fails ≡ [] → IsOk result }
         ensures after { self.new ≡ record self.old {
-            noted = looked self.old.noted (place_of self.old.entries name.now) at (length buf.old);
-            counted = called self.old.counted } }
+          noted = looked self.old.noted (place_of self.old.entries name.now) at (length buf.old);
+          counted = called self.old.counted;
+        } }
     {
         let fault = self.schedule.count();
         let Some((file, bytes)) = find_file(self.files.as_slice(), name) else {
@@ -151,6 +154,7 @@ impl Store for MemStore {
 
         // The calls that fail are those of the schedule.
         ensures fails { IsErrOf result Trouble.Failed → IsSome (next_fault self.old.counted) }
+        ensures never { self.old.counted.fails ≡ [] → IsErrOf result Trouble.Failed → ⊥ }
         ensures passes { IsOk result → IsNone (next_fault self.old.counted) }
         ensures after { self.new ≡ after_put self.old name.now bytes.now result }
     {

@@ -8,6 +8,6 @@ use Rattle.fb_outside.proofs.file_name.all_pieces.Goals as goal
 pub returns : goal.returns
 returns c =
     all_from_yields_List (is_piece c.args.most) _ _ _ c.all.ensures.ran
-        (YieldsList-from_slice_split _ (λ b. eqb b 47) c.args.text.now c.split.ensures.rest c.split.ensures.done c.split.ensures.closure
-            (λ x b q k. search (rules, tests)))
-        (λ x b q k. search (rules, tests))
+    (YieldsList-from_slice_split _ (λ b. eqb b 47) c.args.text.now c.split.ensures.rest c.split.ensures.done c.split.ensures.closure
+    (λ x b q k. search (rules, tests)))
+    (λ x b q k. search (rules, tests))

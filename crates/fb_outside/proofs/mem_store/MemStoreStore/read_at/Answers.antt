@@ -12,15 +12,15 @@ returns-then-is_some-2-clause-reads c =
     let es = map entry_of c.self.inside.files.items in
     let place : place_of es c.args.name.now ≡ Some c.in-Some.file = rw (← c.as_slice.ensures.value) (sym c.in-Some.ensures.place) in
     let there : is_some (file_at (from_entries es) c.args.name.now) ≡ true =
-        rw (← c.as_slice.ensures.value) (ap is_some (sym c.in-Some.ensures.bytes)) in
+    rw (← c.as_slice.ensures.value) (ap is_some (sym c.in-Some.ensures.bytes)) in
     rw (← c.self.view_is, c.add.ensures)
-        (adds_note es c.self.inside.notes (from_entries es) c.args.name.now c.in-Some.file c.args.at (length c.args.buf.now) place there)
+    (adds_note es c.self.inside.notes (from_entries es) c.args.name.now c.in-Some.file c.args.at (length c.args.buf.now) place there)
 
 pub returns-clause-reads : goal.returns-clause-reads
 returns-clause-reads c =
     let es = map entry_of c.self.inside.files.items in
     let place : place_of es c.args.name.now ≡ Some c.in-Some.file = rw (← c.as_slice.ensures.value) (sym c.in-Some.ensures.place) in
     let there : is_some (file_at (from_entries es) c.args.name.now) ≡ true =
-        rw (← c.as_slice.ensures.value) (ap is_some (sym c.in-Some.ensures.bytes)) in
+    rw (← c.as_slice.ensures.value) (ap is_some (sym c.in-Some.ensures.bytes)) in
     rw (← c.self.view_is, c.add.ensures, c.give.auto.buf)
-        (adds_note es c.self.inside.notes (from_entries es) c.args.name.now c.in-Some.file c.args.at (length c.args.buf.now) place there)
+    (adds_note es c.self.inside.notes (from_entries es) c.args.name.now c.in-Some.file c.args.at (length c.args.buf.now) place there)

@@ -1,5 +1,6 @@
-ghost use Rattle.std.specs.Prelude.{◌≡◌, ◌^◌, ◌+◌, ◌<◌, ◌≤◌, Ok, IfOk, IfErr, length};
+ghost use Rattle.std.specs.Prelude.{◌≡◌, ◌^◌, ◌+◌, ◌<◌, ◌≤◌, Ok, IfOk, IfErr, length, map};
 ghost use Rattle.csv_load.specs.Answers.{IsRecordFault, at_number};
+ghost use Rattle.csv_load.specs.Law.{IsFirstFault, each_record};
 ghost use Rattle.csv_load.specs.Loaded.{loaded, loaded_from};
 ghost use Rattle.csv_load.specs.RowsLeft.{IsPlain, rows_left};
 ghost use Rattle.csv_load.specs.declared.load.RecordFault.TheVariants as at_record;
@@ -38,6 +39,10 @@ pub fn records(alloc: Global, bytes: &[u8], schema: &Schema, skip: u64) -> Resul
     ensures schema { IfOk result (λ columns. columns.schema ≡ schema.now) }
     ensures records { IfOk result (λ columns. loaded bytes.now schema.now skip ≡ Ok columns.records) }
     ensures fault { IfErr result (λ fault. IsRecordFault fault (loaded bytes.now schema.now skip)) }
+
+    // The same without the definition: none is lost or moved, and the fault is the first.
+    ensures each { IfOk result (λ columns. each_record bytes.now schema.now skip ≡ map Ok columns.records) }
+    ensures first { IfErr result (λ fault. IsFirstFault fault bytes.now schema.now skip) }
 {
     let mut rdr = reader_over(alloc, bytes);
     if !skip_rows(alloc, &mut rdr, skip)? {

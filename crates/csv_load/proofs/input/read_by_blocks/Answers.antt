@@ -1,7 +1,7 @@
 -- After a turn, what came before it and what it gave were taken.
 use Rattle.std.proofs.Common.{◌≡◌, ◌++◌, ◌+◌, ◌-◌, ◌<◌, ◌≤◌, arith, length, length-append, refl, rules, take}
 use Rattle.std.proofs.lemmas.List.{length-take}
-use Rattle.csv_load.proofs.TakenBytes.{takes-more}
+use Rattle.fb_outside.proofs.StreamLemmas.{Takes-append}
 use Rattle.csv_load.proofs.input.read_by_blocks.Goals as goal
 
 pub returns-then-count-limit-clause-fault : goal.returns-then-count-limit-clause-fault
@@ -14,7 +14,7 @@ returns-then-count-limit-clause-fault g c =
     let kept : length c.take.new.buf ≡ length c.args.block.now = search rules in
     (refl, record {
       came = all ++ piece;
-      taken = takes-more _ _ _ all piece c.loop-count.invariant.taken c.in-Ok.ensures.taken;
+      taken = Takes-append _ _ _ all piece c.loop-count.invariant.taken c.in-Ok.ensures.taken;
       count = (omega arith, omega (arith, c.loop-count.invariant.within, c.in-Ok.ensures.count)) })
 
 pub returns-then-is_err-clause-fault : goal.returns-then-is_err-clause-fault
@@ -26,5 +26,5 @@ returns-then-is_err-clause-fault g c =
     let held = c.loop-count.all.ok.0 in
     record {
       came = all ++ piece;
-      taken = takes-more _ _ _ all piece c.loop-count.invariant.taken c.in-Ok.ensures.taken;
+      taken = Takes-append _ _ _ all piece c.loop-count.invariant.taken c.in-Ok.ensures.taken;
       count = omega (arith, c.loop-count.invariant.within) }

@@ -3,6 +3,8 @@ use Rattle.std.proofs.Common.{◌≡◌, ◌+◌, ◌<◌, ◌≤◌, ◌^◌, �
 use Rattle.std.proofs.lemmas.List.{length-drop}
 use Rattle.csv_load.specs.Loaded.{text_records}
 use Rattle.csv_load.specs.RowsLeft.{rows_left}
+use Rattle.std.proofs.lemmas.Result.{IfOk-weaker, MatchResult-weaker}
+use Rattle.csv_load.proofs.LawFacts.{loaded-each, loaded-first}
 use Rattle.csv_load.proofs.LoadFacts.{loaded-rest, loaded_from-none}
 use Rattle.csv_load.proofs.RecordsOfText.{length-text_records}
 use Rattle.csv_load.proofs.load.records.Goals as goal
@@ -30,3 +32,11 @@ pub returns-clause-fault : goal.returns-clause-fault
 returns-clause-fault c =
     let rest = rw (c.if-not-branch.false, c.reader_over-rdr.ensures.all) at c.in_ok-skip_rows.ensures.rows in
     rw (loaded-rest c.args.bytes.now c.args.schema.now c.args.skip _ rest) c.load_rows.ensures.fault
+
+pub returns-clause-each : goal.returns-clause-each
+returns-clause-each c =
+    IfOk-weaker c.load_rows.result _ _ (λ table h. loaded-each c.args.bytes.now c.args.schema.now c.args.skip table.records h) (returns-clause-records c)
+
+pub returns-clause-first : goal.returns-clause-first
+returns-clause-first c =
+    MatchResult-weaker c.load_rows.result (λ table h. h) (λ fault h. loaded-first c.args.bytes.now c.args.schema.now c.args.skip fault h) (returns-clause-fault c)

@@ -1,6 +1,6 @@
 -- What the field of a whole column says.
-use Rattle.std.specs.Prelude.{ℕ, Bool, ◌&&◌, ◌||◌, ◌==◌, ℤ, pos, neg_ℤ, int_le, Option, Some, None, List, [], ◌∷◌, drop, reverse, if◌then◌else◌}
-use Rattle.std.specs.List.{list_all, prefix_len}
+use Rattle.std.specs.Prelude.{ℕ, Bool, ◌&&◌, ◌||◌, ◌==◌, ℤ, pos, neg_ℤ, int_le, Option, Some, None, List, [], ◌∷◌, length, take, drop, ◌-◌, ◌^◌, min, negsuc, reverse, if◌then◌else◌}
+use Rattle.std.specs.List.{list_all, take_while}
 use Rattle.std.specs.Char.{is_ascii_digit}
 use Rattle.std.specs.Option.{option_map}
 use Rattle.std.specs.Str.Parse.{digits_value}
@@ -13,12 +13,19 @@ use Rattle.fb_types.specs.Types.{ends_of}
 abbrev pub is_blank : ℕ → Bool
 is_blank b = b == 32 || b == 9
 
+-- how many blanks stand at the front
+abbrev pub blanks_before : List ℕ → ℕ
+blanks_before bytes = length (take_while is_blank bytes)
+
 abbrev pub without_leading_blanks : List ℕ → List ℕ
-without_leading_blanks bytes = drop (prefix_len is_blank bytes) bytes
+without_leading_blanks bytes = drop (blanks_before bytes) bytes
+
+abbrev pub without_trailing_blanks : List ℕ → List ℕ
+without_trailing_blanks bytes = take (length bytes - blanks_before (reverse bytes)) bytes
 
 -- the bytes without the blanks at both ends
 abbrev pub trimmed : List ℕ → List ℕ
-trimmed bytes = reverse (without_leading_blanks (reverse (without_leading_blanks bytes)))
+trimmed bytes = without_trailing_blanks (without_leading_blanks bytes)
 
 -- the number that one or more decimal digits write
 abbrev pub natural_of : List ℕ → Option ℕ
@@ -31,6 +38,11 @@ whole_of [] = None
 whole_of (b ∷ bs) =
     if b == 45 then option_map (λ n. neg_ℤ (pos n)) (natural_of bs)
     else (option_map (λ n. pos n) (natural_of (if b == 43 then bs else b ∷ bs)))
+
+-- a number beyond 2 ^ 64 in size, cut to that: no type's ends let either in
+abbrev pub capped : ℤ → ℤ
+capped (pos n) = pos (min n (2 ^ 64))
+capped (negsuc n) = negsuc (min n (2 ^ 64 - 1))
 
 -- a number is a value where it keeps to the ends
 abbrev pub number_answer : Option ℤ → Option (ℤ × ℤ) → FieldAnswer

@@ -1,5 +1,5 @@
 -- How a list of cells is kept: a slot for each cell, and the bytes of all words in one text.
-use Rattle.std.specs.Prelude.{ℕ, ◌+◌, ◌^◌, ◌≤◌, ℤ, pos, negsuc, neg_ℤ, ◌≤ℤ◌, ◌-◌, Option, Some, None, List, [], ◌∷◌, length, take, drop}
+use Rattle.std.specs.Prelude.{◌≡◌, ℕ, ◌+◌, ◌^◌, ◌≤◌, ℤ, pos, negsuc, neg_ℤ, ◌≤ℤ◌, ◌-◌, Option, Some, None, List, [], ◌∷◌, ◌++◌, length, take, drop}
 use Rattle.fb_types.specs.declared.cells.Cell.{Cell}
 use Rattle.fb_types.specs.declared.cells.Cell.TheVariants.{Null, Whole, Word}
 use Rattle.fb_types.specs.declared.slots.Slot.{Slot}
@@ -35,6 +35,18 @@ IsStorable (Word word) = length word ≤ 65535
 abbrev pub AllStorable : List Cell → Type 0
 AllStorable [] = Unit {0}
 AllStorable (cell ∷ cells) = IsStorable cell × AllStorable cells
+
+-- the bytes that a cell adds to the text
+abbrev pub text_of : Cell → List ℕ
+text_of Null = []
+text_of (Whole number) = []
+text_of (Word word) = word
+
+-- the slot keeps the cell, whose word has gone to the end of the text
+pub record IsKept (old new : List ℕ) (slot : Slot) (cell : Cell) : Type 0 where
+  pub grown : new ≡ old ++ text_of cell
+  pub inside : IsInText new slot
+  pub value : cell_in new slot ≡ cell
 
 -- the number or the word of a cell that is one
 abbrev pub whole_in : Cell → Option ℤ

@@ -26,6 +26,12 @@ impl Label {
         })
     }
 
+    pub fn from_vec(bytes: Vec<u8>) -> Label
+        ensures { result ≡ bytes.items }
+    {
+        Label { bytes }
+    }
+
     pub fn bytes(&self) -> &[u8]
         ensures { result.now ≡ self.now }
     {

@@ -1,5 +1,6 @@
-ghost use Rattle.std.specs.Prelude.{◌≡◌, IfOk, IfErr, Ok};
-ghost use Rattle.fb_types.specs.SchemaText.{IsFaultOf, IsReadable, read_schema, schema_text};
+ghost use Rattle.std.specs.Prelude.{◌≡◌, ◌++◌, IfOk, IfErr, Ok, OnOk};
+ghost use Rattle.std.specs.List.{after_first, before_first};
+ghost use Rattle.fb_types.specs.SchemaText.{IsFaultOf, IsReadable, column_text, is_colon, read_schema, schema_text};
 
 use crate::labels::Label;
 use crate::names::ColName;
@@ -32,7 +33,40 @@ pub fn parse_schema(alloc: Global, text: &str) -> Result<Schema, MetaFault>
     ensures ok { IfOk result (λ schema. read_schema text.now ≡ Ok schema) }
     ensures bad { IfErr result (λ fault. IsFaultOf fault text.now) }
 {
-    Err(MetaFault::OutOfMemory)
+    let (name, ty) = split_at_colon(text.as_bytes());
+    if ty != ColType::Int.name().as_bytes() {
+        return Err(no_type());
+    }
+    let name = match ColName::from_bytes(alloc, name) {
+        Ok(Some(name)) => name,
+        Ok(None) => return Err(no_type()),
+        Err(_) => return Err(MetaFault::OutOfMemory),
+    };
+    let column = Column {
+        name,
+        ty: ColType::Int,
+    };
+    Schema::one(alloc, column).map_err(|_| MetaFault::OutOfMemory)
+}
+
+fn no_type() -> MetaFault
+    ensures { result ≡ MetaFault.Bad 1 SchemaKind.BadType }
+{
+    MetaFault::Bad {
+        column: 1,
+        kind: SchemaKind::BadType,
+    }
+}
+
+/// What stands before the first colon, and after it.
+fn split_at_colon(text: &[u8]) -> (&[u8], &[u8])
+    ensures before { result.0.now ≡ before_first is_colon text.now }
+    ensures after { result.1.now ≡ after_first is_colon text.now }
+{
+    match text.iter().position(|b| *b == b':') {
+        Some(at) => (&text[..at], &text[at + 1..]),
+        None => (text, &[]),
+    }
 }
 
 /// Prints a schema as `name:type`, joined by commas.
@@ -40,5 +74,20 @@ pub fn print_schema(alloc: Global, schema: &Schema) -> Result<Label, AllocError>
     ensures text { IfOk result (λ text. text ≡ schema_text schema.now) }
     ensures reads_back { IfOk result (λ text. IsReadable schema.now → read_schema text ≡ Ok schema.now) }
 {
-    Err(AllocError)
+    let mut text = Vec::new(alloc);
+    for column in schema.columns() {
+        if !text.is_empty() {
+            text.push(b',')?;
+        }
+        push_column(&mut text, column)?;
+    }
+    Ok(Label::from_vec(text))
+}
+
+fn push_column(text: &mut Vec<u8>, column: &Column) -> Result<(), AllocError>
+    ensures { OnOk result (text.new.items ≡ text.old.items ++ column_text column.now) }
+{
+    text.extend_from_slice(column.name.bytes())?;
+    text.push(b':')?;
+    text.extend_from_slice(column.ty.name().as_bytes())
 }

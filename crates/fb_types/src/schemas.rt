@@ -1,4 +1,5 @@
-ghost use Rattle.std.specs.Prelude.{◌≡◌, IfOk};
+ghost use Rattle.std.specs.Prelude.{◌≡◌, [], ◌∷◌, IfOk};
+ghost use Rattle.fb_types.specs.Names.{IsColumnName};
 ghost use Rattle.fb_types.specs.Schemas.{IsSchema, place_of};
 
 use crate::names::ColName;
@@ -32,6 +33,16 @@ impl Model for Schema {
 }
 
 impl Schema {
+    /// The schema of one column.
+    pub(crate) fn one(alloc: Global, column: Column) -> Result<Schema, AllocError>
+        requires { IsColumnName column.name }
+        ensures { IfOk result (λ s. s ≡ column ∷ []) }
+    {
+        let mut columns = Vec::with_capacity(alloc, 1)?;
+        columns.push(column)?;
+        Ok(Schema { columns })
+    }
+
     pub fn columns(&self) -> &[Column]
         ensures value { result.now ≡ self.now }
         ensures valid { IsSchema self.now }
@@ -49,7 +60,8 @@ impl Schema {
     }
 
     pub fn copy(&self, alloc: Global) -> Result<Schema, AllocError>
-        ensures { IfOk result (λ s. s ≡ self.now) }
+        ensures value { IfOk result (λ s. s ≡ self.now) }
+        ensures valid { IsSchema self.now }
     {
         let mut columns = Vec::with_capacity(alloc, self.columns.len())?;
         for column in &self.columns {

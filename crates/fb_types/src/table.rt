@@ -46,7 +46,9 @@ impl Columns {
         ensures ok { OnOk result (self.new ≡ add_record self.old cells.items) }
         ensures err { OnErr result (self.new ≡ self.old) }
     {
-        Err(AllocError)
+        self.cells.extend(&cells)?;
+        self.rows += 1;
+        Ok(())
     }
 
     pub fn schema(&self) -> &Schema
@@ -69,7 +71,8 @@ impl Columns {
         requires column { IsWholeColumn self.now.schema col }
         ensures { MatchOption result (cell_at self.now row col ≡ Cell.Null) (λ number. cell_at self.now row col ≡ Cell.Whole number) }
     {
-        None
+        let width = self.schema.columns().len();
+        self.cells.whole(row as usize * width + col)
     }
 
     /// The bytes of a cell of a category or text column, `None` where it is null.
@@ -78,6 +81,7 @@ impl Columns {
         requires column { IsWordColumn self.now.schema col }
         ensures { MatchOption result (cell_at self.now row col ≡ Cell.Null) (λ word. cell_at self.now row col ≡ Cell.Word word.now) }
     {
-        None
+        let width = self.schema.columns().len();
+        self.cells.word(row as usize * width + col)
     }
 }

@@ -48,6 +48,7 @@ impl ColType {
     }
 
     /// The word of the type in a schema text.
+    #[tactic(auto, unfolding(crate::specs::Types::type_name))]
     pub(crate) fn name(self) -> &'static str
         ensures { result.now ≡ type_name self }
     {

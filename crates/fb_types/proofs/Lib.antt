@@ -1,0 +1,4 @@
+pub mod CellFacts
+pub mod FieldFacts
+pub mod RowFacts
+pub mod SlotFacts

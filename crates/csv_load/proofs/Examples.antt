@@ -8,15 +8,38 @@ use Rattle.fb_types.specs.declared.types.ColType.TheVariants as ty
 use Rattle.csv_load.specs.Loaded.{all_or_first, field_cell, field_cells, loaded, record_cells}
 use Rattle.csv_load.specs.declared.fields.RecordKind.TheVariants.{FieldCount, NotWhole, OutOfRange}
 
--- one column `a` of type int
+-- one column `a` of a type
 abbrev int_column : List Column
 int_column = record { name = codes "a"; ty = ty.Int } ∷ []
 
-too_many : loaded (1 ∷ []) int_column 0 ≡ Err (record { number = 1; field = 1; kind = NotWhole })
+abbrev byte_column : List Column
+byte_column = record { name = codes "a"; ty = ty.Byte } ∷ []
+
+abbrev word_column : List Column
+word_column = record { name = codes "a"; ty = ty.Category } ∷ []
+
+-- a record for each line
+three_records : loaded (codes "1\n2\n3\n") int_column 0
+    ≡ Ok ((cell.Whole (pos 1) ∷ []) ∷ (cell.Whole (pos 2) ∷ []) ∷ (cell.Whole (pos 3) ∷ []) ∷ [])
 unfolding csv_on_literals loaded all_or_first record_cells field_cells field_cell
-too_many = refl
+three_records = refl
+
+-- a blank field is no number as yet
+blank_field : loaded (codes "1\n\"\"\n") int_column 0 ≡ Err (record { number = 2; field = 1; kind = NotWhole })
+unfolding csv_on_literals loaded all_or_first record_cells field_cells field_cell
+blank_field = refl
 
 -- the second record has a field too many
-two_fields : loaded (codes "1,2\n") int_column 0 ≡ Err (record { number = 1; field = 2; kind = FieldCount })
+second_too_long : loaded (codes "1\n1,2\n") int_column 0 ≡ Err (record { number = 2; field = 2; kind = FieldCount })
 unfolding csv_on_literals loaded all_or_first record_cells field_cells field_cell
-two_fields = refl
+second_too_long = refl
+
+-- the header that is skipped counts
+after_a_header : loaded (codes "a,b\n1\n128\n") byte_column 1 ≡ Err (record { number = 3; field = 1; kind = OutOfRange })
+unfolding csv_on_literals loaded all_or_first record_cells field_cells field_cell
+after_a_header = refl
+
+-- a word, and a null
+words : loaded (codes "x\n\"\"\n") word_column 0 ≡ Ok ((cell.Word (codes "x") ∷ []) ∷ (cell.Null ∷ []) ∷ [])
+unfolding csv_on_literals loaded all_or_first record_cells field_cells field_cell
+words = refl

@@ -8,7 +8,7 @@ use Rattle.fb_types.specs.Cells.{CellFits, RecordFits}
 use Rattle.fb_types.specs.declared.cells.Cell.{Cell}
 use Rattle.fb_types.specs.declared.schemas.Column.{Column}
 use Rattle.std.proofs.lemmas.Int.{ints}
-use Rattle.fb_types.specs.Field.{field_answer, number_answer, text_answer, whole_of}
+use Rattle.fb_types.specs.Field.{field_answer, number_answer, text_answer, trimmed, whole_of}
 use Rattle.fb_types.specs.Types.{ends_of}
 use Rattle.fb_types.specs.declared.fields.FieldAnswer.TheVariants as says
 use Rattle.fb_types.specs.declared.types.ColType.{ColType}
@@ -51,8 +51,7 @@ text_answer-within (b ∷ bs) ends number h = number_answer-within (whole_of (b 
 
 -- a field's value keeps to the ends of the type
 pub field_answer-within : (field : List ℕ) (ty : ColType) (number : ℤ) → field_answer field ty ≡ says.Value number → Within (ends_of ty) number
-unfolding field_answer
-field_answer-within field ty number h = cc
+field_answer-within field ty number h = text_answer-within (trimmed field) (ends_of ty) number h
 
 -- one more cell, of one more column
 pub RecordFits-push : (cells : List Cell) (columns : List Column) (cell : Cell) (column : Column)

@@ -39,4 +39,4 @@ returns-clause-each c =
 
 pub returns-clause-first : goal.returns-clause-first
 returns-clause-first c =
-    MatchResult-weaker c.load_rows.result (λ table h. h) (λ fault h. loaded-first c.args.bytes.now c.args.schema.now c.args.skip fault h) (returns-clause-fault c)
+    MatchResult-weaker c.load_rows.result (returns-clause-fault c) (λ table h. h) (λ fault h. loaded-first c.args.bytes.now c.args.schema.now c.args.skip fault h)

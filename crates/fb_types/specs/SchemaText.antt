@@ -1,5 +1,5 @@
 -- Schemas, and the texts that spell them.
-use Rattle.std.specs.Prelude.{◌≡◌, ℕ, Bool, ◌==◌, Option, Some, None, Result, Ok, Err, List, [], ◌∷◌, ◌++◌, map, if◌then◌else◌}
+use Rattle.std.specs.Prelude.{◌≡◌, ℕ, zero, suc, Bool, ◌==◌, Option, Some, None, Result, Ok, Err, List, [], ◌∷◌, ◌++◌, map, if◌then◌else◌}
 use Rattle.std.specs.List.{join_with_byte, before_first, after_first}
 use Rattle.std.specs.Str.{bytes_eq}
 use Rattle.fb_types.specs.declared.types.ColType.TheVariants.{Int}
@@ -17,6 +17,11 @@ column_text column = column.name ++ (58 ∷ type_name column.ty)
 
 abbrev pub schema_text : List Column → List ℕ
 schema_text columns = join_with_byte 44 (map column_text columns)
+
+-- what stands before the item at a place, from 0
+abbrev pub separator_before : ℕ → List ℕ
+separator_before zero = []
+separator_before (suc at) = 44 ∷ []
 
 -- the first fault of a text that spells no schema: the column, from 1, and what is wrong there
 pub record SchemaFault : Type 0 where

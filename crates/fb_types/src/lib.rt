@@ -9,6 +9,8 @@ mod schema_text;
 mod schemas;
 mod slots;
 mod table;
+#[cfg(test)]
+mod tests;
 mod types;
 
 pub use cells::Cell;

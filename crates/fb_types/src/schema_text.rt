@@ -1,6 +1,6 @@
-ghost use Rattle.std.specs.Prelude.{◌≡◌, ◌++◌, IfOk, IfErr, Ok, OnOk};
-ghost use Rattle.std.specs.List.{after_first, before_first};
-ghost use Rattle.fb_types.specs.SchemaText.{IsFaultOf, IsReadable, column_text, is_colon, read_schema, schema_text};
+ghost use Rattle.std.specs.Prelude.{◌≡◌, ◌<◌, ◌++◌, length, IfSome, IfOk, IfErr, Ok, OnOk};
+ghost use Rattle.std.specs.List.{after_first, before_first, position};
+ghost use Rattle.fb_types.specs.SchemaText.{IsFaultOf, IsReadable, column_text, is_colon, read_schema, schema_text, separator_before};
 
 use crate::labels::Label;
 use crate::names::ColName;
@@ -63,10 +63,17 @@ fn split_at_colon(text: &[u8]) -> (&[u8], &[u8])
     ensures before { result.0.now ≡ before_first is_colon text.now }
     ensures after { result.1.now ≡ after_first is_colon text.now }
 {
-    match text.iter().position(|b| *b == b':') {
+    match colon(text) {
         Some(at) => (&text[..at], &text[at + 1..]),
         None => (text, &[]),
     }
+}
+
+fn colon(text: &[u8]) -> Option<usize>
+    ensures place { result ≡ position is_colon text.now }
+    ensures within { IfSome result (λ at. at < length text.now) }
+{
+    text.iter().position(|b| *b == b':')
 }
 
 /// Prints a schema as `name:type`, joined by commas.
@@ -75,13 +82,21 @@ pub fn print_schema(alloc: Global, schema: &Schema) -> Result<Label, AllocError>
     ensures reads_back { IfOk result (λ text. IsReadable schema.now → read_schema text ≡ Ok schema.now) }
 {
     let mut text = Vec::new(alloc);
-    for column in schema.columns() {
-        if !text.is_empty() {
-            text.push(b',')?;
-        }
+    for (at, column) in schema.columns().iter().enumerate() {
+        push_separator(&mut text, at)?;
         push_column(&mut text, column)?;
     }
     Ok(Label::from_vec(text))
+}
+
+/// The comma between two columns.
+fn push_separator(text: &mut Vec<u8>, at: usize) -> Result<(), AllocError>
+    ensures { OnOk result (text.new.items ≡ text.old.items ++ separator_before at) }
+{
+    if at > 0 {
+        text.push(b',')?;
+    }
+    Ok(())
 }
 
 fn push_column(text: &mut Vec<u8>, column: &Column) -> Result<(), AllocError>

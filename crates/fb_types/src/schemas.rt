@@ -1,4 +1,4 @@
-ghost use Rattle.std.specs.Prelude.{◌≡◌, [], ◌∷◌, IfOk};
+ghost use Rattle.std.specs.Prelude.{◌≡◌, ◌<◌, [], ◌∷◌, ◌++◌, length, None, IfOk, OnOk, OnErr};
 ghost use Rattle.fb_types.specs.Names.{IsColumnName};
 ghost use Rattle.fb_types.specs.Schemas.{IsSchema, place_of};
 
@@ -41,6 +41,18 @@ impl Schema {
         let mut columns = Vec::with_capacity(alloc, 1)?;
         columns.push(column)?;
         Ok(Schema { columns })
+    }
+
+    /// Puts a column at the end.
+    pub(crate) fn add(&mut self, column: Column) -> Result<(), AllocError>
+        requires named { IsColumnName column.name }
+        requires new { place_of self.old column.name ≡ None }
+        requires room { length self.old < 255 }
+        ensures ok { OnOk result (self.new ≡ self.old ++ column ∷ []) }
+        ensures err { OnErr result (self.new ≡ self.old) }
+    {
+        self.columns.push(column)?;
+        Ok(())
     }
 
     pub fn columns(&self) -> &[Column]

@@ -1,0 +1,148 @@
+use super::*;
+use std::alloc::Global;
+use std::test::Fail;
+
+fn two_columns(alloc: Global, rt: &impl std::process::Abort) -> Result<Schema, Fail> {
+    let mut schema = parse_schema(alloc, "A:int")?;
+    let name = ColName::from_bytes(alloc, b"b")?.expect(rt, "a name");
+    assert!(rt; schema.place(name.bytes()).is_none());
+    assert!(rt; schema.columns().len() < 255);
+    schema.add(Column {
+        name,
+        ty: ColType::Category,
+    })?;
+    Ok(schema)
+}
+
+#[test]
+fn names(rt: HostRuntime) -> Result<(), Fail> {
+    let alloc = rt.alloc();
+    let long = [b'x'; 65];
+    for (bytes, want) in [
+        (b"Ab".as_slice(), Some("ab")),
+        (b"_9z", Some("_9z")),
+        (
+            &long[..64],
+            Some("xxxxxxxxxxxxxxxxxxxxxxxxxxxxxxxxxxxxxxxxxxxxxxxxxxxxxxxxxxxxxxxx"),
+        ),
+        (&long, None),
+        (b"", None),
+        (b"by", None),
+        (b"ORDER", None),
+        (b"2a", None),
+        (b"a-b", None),
+    ] {
+        let name = ColName::from_bytes(alloc, bytes)?;
+        match (name, want) {
+            (None, None) => {}
+            (Some(name), Some(want)) => {
+                assert!(rt; name.bytes() == want.as_bytes());
+                assert!(rt; name.copy(alloc)?.bytes() == want.as_bytes());
+            }
+            _ => assert!(rt; false, "at {bytes:?}"),
+        }
+    }
+    let label = Label::from_bytes(alloc, b"x")?;
+    assert!(rt; label.bytes() == b"x");
+    assert!(rt; label.copy(alloc)?.bytes() == [0x78]);
+    Ok(())
+}
+
+#[test]
+fn schemas(rt: HostRuntime) -> Result<(), Fail> {
+    let alloc = rt.alloc();
+    for text in [
+        "",
+        "a",
+        "a:",
+        "a:byte",
+        " a:int",
+        "a:int ",
+        "a: int",
+        "by:int",
+        "2a:int",
+        "a:int,b:int",
+        ":int",
+        "a:INT",
+    ] {
+        match parse_schema(alloc, text) {
+            Err(MetaFault::Bad { column, kind }) => {
+                assert_eq!(rt; column, 1, "at {text}");
+                assert_eq!(rt; kind, SchemaKind::BadType, "at {text}");
+            }
+            _ => assert!(rt; false, "at {text}"),
+        }
+    }
+    let schema = parse_schema(alloc, "A:int")?;
+    assert!(rt; print_schema(alloc, &schema)?.bytes() == b"a:int");
+    let schema = two_columns(alloc, &rt)?.copy(alloc)?;
+    assert!(rt; print_schema(alloc, &schema)?.bytes() == b"a:int,b:category");
+    assert_eq!(rt; schema.place(b"b"), Some(1));
+    assert_eq!(rt; schema.place(b"B"), None);
+    Ok(())
+}
+
+#[test]
+fn fields(rt: HostRuntime) {
+    for (field, ty, want) in [
+        (b"128".as_slice(), ColType::Byte, FieldAnswer::OutOfRange),
+        (b"-128", ColType::Byte, FieldAnswer::Value(-128)),
+        (b" 2\t", ColType::Int, FieldAnswer::Value(2)),
+        (b"+007", ColType::UByte, FieldAnswer::Value(7)),
+        (b"-0", ColType::UByte, FieldAnswer::Value(0)),
+        (b"-1", ColType::ULong, FieldAnswer::OutOfRange),
+        (
+            b"18446744073709551615",
+            ColType::ULong,
+            FieldAnswer::Value(18446744073709551615),
+        ),
+        (
+            b"18446744073709551616",
+            ColType::ULong,
+            FieldAnswer::OutOfRange,
+        ),
+        (
+            b"-9223372036854775808",
+            ColType::Long,
+            FieldAnswer::Value(-9223372036854775808),
+        ),
+        (
+            b"-9223372036854775809",
+            ColType::Long,
+            FieldAnswer::OutOfRange,
+        ),
+        (
+            b"0000000000000000000000000000000000000000000000000000000000000003",
+            ColType::Short,
+            FieldAnswer::Value(3),
+        ),
+        (
+            b"340282366920938463463374607431768211457",
+            ColType::Int,
+            FieldAnswer::OutOfRange,
+        ),
+        (b" \t ", ColType::Int, FieldAnswer::Null),
+        (b"", ColType::UInt, FieldAnswer::Null),
+        (b"-", ColType::Int, FieldAnswer::NotWhole),
+        (b"+-1", ColType::Int, FieldAnswer::NotWhole),
+        (b"1 2", ColType::Int, FieldAnswer::NotWhole),
+        (b"1.0", ColType::UShort, FieldAnswer::NotWhole),
+        (b"\r1", ColType::UShort, FieldAnswer::NotWhole),
+    ] {
+        assert!(rt; ty.ends().is_some());
+        assert_eq!(rt; parse_whole(field, ty), want, "at {field:?}");
+    }
+}
+
+#[test]
+fn tables(rt: HostRuntime) -> Result<(), Fail> {
+    let alloc = rt.alloc();
+    let mut columns = Columns::make(alloc, &two_columns(alloc, &rt)?)?;
+    assert_eq!(rt; columns.rows(), 0);
+    let one = vec![in alloc;
+        Cell::Whole(-1),
+        Cell::Word(Label::from_bytes(alloc, b"a,b")?),
+    ]?;
+    columns.push(one)?;
+    Ok(())
+}

@@ -9,29 +9,34 @@ use std::test::Fail;
 
 const FOLDER: &str = "fb_outside_test";
 
+/// A name that is known to be one.
+fn named<R: Abort + AllocGlobal>(rt: &R, text: &str) -> FileName {
+    match FileName::from_str(rt.alloc(), text) {
+        Ok(Some(name)) => name,
+        _ => rt.panic("no name"),
+    }
+}
+
+/// Whether the text is a name, and then whether it is a path.
+fn check_name<R: Abort + AllocGlobal>(rt: &R, text: &str, is_name: bool, is_path: bool) {
+    match FileName::from_str(rt.alloc(), text) {
+        Err(_) => rt.panic("out of memory"),
+        Ok(None) => assert!(rt; !is_name, "{text}"),
+        Ok(Some(name)) => {
+            assert!(rt; is_name, "{text}");
+            assert!(rt; name.as_str() == text, "{text}");
+            assert!(rt; name.is_path() == is_path, "{text}");
+        }
+    }
+}
+
 #[test]
 fn knows_names_and_paths(rt: HostRuntime) -> Result<(), Fail> {
-    let alloc = rt.alloc();
-    let (p64, p65) = ("p".repeat(alloc, 64)?, "p".repeat(alloc, 65)?);
-    let (p80, p81) = ("p".repeat(alloc, 80)?, "p".repeat(alloc, 81)?);
-    let (path200, path201) = ("ab/d".repeat(alloc, 50)?, "/ab/d".repeat(alloc, 40)?);
-    let (name300, name301) = ("ab/d".repeat(alloc, 75)?, "/ab/d".repeat(alloc, 60)?);
-    let path201 = format!(in alloc; "{path201}e")?;
-    let name301 = format!(in alloc; "{name301}e")?;
-    // The text, whether it is a name, and whether it is a path.
     for (text, is_name, is_path) in [
         ("a/b.csv", true, true),
         ("/a", true, true),
         ("-catalog.txt", true, true),
         ("a/.b/c_d/...", true, true),
-        (p64.as_str(), true, true),
-        (p65.as_str(), true, false),
-        (p80.as_str(), true, false),
-        (p81.as_str(), false, false),
-        (path200.as_str(), true, true),
-        (path201.as_str(), true, false),
-        (name300.as_str(), true, false),
-        (name301.as_str(), false, false),
         ("", false, false),
         ("/", false, false),
         ("a//b", false, false),
@@ -44,15 +49,29 @@ fn knows_names_and_paths(rt: HostRuntime) -> Result<(), Fail> {
         ("a~", false, false),
         ("\u{e9}", false, false),
     ] {
-        match FileName::from_str(alloc, text)? {
-            None => assert!(rt; !is_name, "{text}"),
-            Some(name) => {
-                assert!(rt; is_name, "{text}");
-                assert_eq!(rt; name.as_str(), text);
-                assert_eq!(rt; name.copy(alloc)?.as_str(), text);
-                assert_eq!(rt; name.is_path(), is_path, "{text}");
-            }
-        }
+        check_name(&rt, text, is_name, is_path);
+    }
+    let name = named(&rt, "a/b.csv");
+    assert_eq!(rt; name.copy(rt.alloc())?.as_str(), name.as_str());
+    Ok(())
+}
+
+#[test]
+fn knows_lengths_of_names(rt: HostRuntime) -> Result<(), Fail> {
+    // A text, how often it comes, what comes behind it, and whether all that is a name and a path.
+    for (text, count, end, is_name, is_path) in [
+        ("p", 64, "", true, true),
+        ("p", 65, "", true, false),
+        ("p", 80, "", true, false),
+        ("p", 81, "", false, false),
+        ("ab/d", 50, "", true, true),
+        ("/ab/d", 40, "e", true, false),
+        ("ab/d", 75, "", true, false),
+        ("/ab/d", 60, "e", false, false),
+    ] {
+        let front = text.repeat(rt.alloc(), count)?;
+        let text = format!(in rt.alloc(); "{front}{end}")?;
+        check_name(&rt, text.as_str(), is_name, is_path);
     }
     Ok(())
 }
@@ -105,45 +124,45 @@ fn has_notes(found: Option<&[ReadNote]>, notes: &[ReadNote]) -> bool {
     }
 }
 
-/// A name that is known to be one.
-fn named<R: Abort + AllocGlobal>(rt: &R, text: &str) -> FileName {
-    match FileName::from_str(rt.alloc(), text) {
-        Ok(Some(name)) => name,
-        _ => rt.panic("no name"),
+/// Reads of at most four bytes from these places on give these bytes.
+fn check_reads<S: Store, R: Abort>(rt: &R, store: &mut S, name: &FileName, cases: &[(u64, &[u8])]) {
+    for (at, want) in cases {
+        let mut buf = [0; 4];
+        match store.read_at(name.as_str(), *at, &mut buf) {
+            Ok(n) => assert!(rt; &buf[..n] == *want, "at {at}"),
+            Err(_) => rt.panic("the outside failed"),
+        }
     }
 }
 
 #[test]
 fn keeps_files_in_memory(rt: HostRuntime) -> Result<(), Fail> {
     let (a, b) = (named(&rt, "d/a"), named(&rt, "d/b"));
-    let (a, b) = (a.as_str(), b.as_str());
-    let mut store = MemStore::make(rt.alloc(), &[], 4)?;
-    let mut buf = [0; 2];
-    assert_eq!(rt; store.len(a), Ok(None));
-    assert_eq!(rt; store.read_at(a, 0, &mut buf), Ok(0));
-    assert_eq!(rt; store.put(b, b"b"), Ok(()));
-    assert_eq!(rt; store.put(a, b"abc"), Ok(()));
-    assert_eq!(rt; store.put(b, b"new"), Ok(()));
-    assert_eq!(rt; store.len(a), Ok(Some(3)));
-    assert_eq!(rt; store.read_at(a, 2, &mut buf), Ok(1));
-    assert_eq!(rt; buf, *b"c\0");
-    assert_eq!(rt; store.read_at(b, 1, &mut buf), Ok(2));
-    assert_eq!(rt; buf, *b"ew");
-    assert_eq!(rt; store.read_at(b, 3, &mut buf), Ok(0));
-    assert_eq!(rt; store.read_at(b, u64::MAX, &mut buf), Ok(0));
-    assert!(rt; has(store.file(a), b"abc"));
-    assert!(rt; has(store.file(b), b"new"));
+    let mut store = MemStore::make(rt.alloc(), &[], 5)?;
+    check_reads(&rt, &mut store, &a, &[(0, b"")]);
+    assert_eq!(rt; store.len(a.as_str()), Ok(None));
+    assert_eq!(rt; store.put(b.as_str(), b"b"), Ok(()));
+    assert_eq!(rt; store.put(a.as_str(), b"abcdef"), Ok(()));
+    assert_eq!(rt; store.put(b.as_str(), b"new"), Ok(()));
+    assert_eq!(rt; store.len(a.as_str()), Ok(Some(6)));
+    check_reads(&rt, &mut store, &a, &[(1, b"bcde"), (4, b"ef")]);
+    check_reads(
+        &rt,
+        &mut store,
+        &b,
+        &[(0, b"new"), (3, b""), (u64::MAX, b"")],
+    );
+    assert!(rt; has(store.file(b.as_str()), b"new"));
     assert!(rt; store.file("d/c").is_none());
-    assert!(rt; is_named(store.name(0), b));
-    assert!(rt; is_named(store.name(1), a));
+    assert!(rt; is_named(store.name(0), "d/b") && is_named(store.name(1), "d/a"));
     assert!(rt; store.name(2).is_none());
-    let notes = [(1, 2), (0, 1), (0, 3), (0, u64::MAX)].map(|(file, at)| ReadNote {
+    let notes = [(1, 1), (1, 4), (0, 0), (0, 3), (0, u64::MAX)].map(|(file, at)| ReadNote {
         file,
         at,
-        length: 2,
+        length: 4,
     });
     assert!(rt; has_notes(store.reads(), &notes));
-    assert_eq!(rt; store.read_at(a, 0, &mut buf[..0]), Ok(0));
+    check_reads(&rt, &mut store, &a, &[(0, b"abcd")]);
     assert!(rt; store.reads().is_none());
     Ok(())
 }
@@ -179,7 +198,6 @@ fn fails_calls_in_memory(rt: HostRuntime) -> Result<(), Fail> {
 #[derive(Drop)]
 struct Slow {
     calls: u32,
-    bytes: Vec<u8>,
 }
 
 impl Slow {
@@ -207,13 +225,7 @@ impl Read for Slow {
 impl Write for Slow {
     fn write(&mut self, buf: &[u8]) -> io::Result<usize> {
         self.step()?;
-        match buf.first() {
-            None => Ok(0),
-            Some(b) => {
-                self.bytes.push(*b)?;
-                Ok(1)
-            }
-        }
+        Ok(buf.len().min(1))
     }
 
     fn flush(&mut self) -> io::Result<()> {
@@ -240,14 +252,12 @@ fn adapts_streams(rt: HostRuntime) -> Result<(), Fail> {
 
 #[test]
 fn answers_a_fault_in_mid_stream(rt: HostRuntime) -> Result<(), Fail> {
-    let bytes = Vec::new(rt.alloc());
-    let mut source = StdSource::make(Slow { calls: 1, bytes });
+    let mut source = StdSource::make(Slow { calls: 1 });
     let mut buf = [0; 2];
     assert_eq!(rt; source.take(&mut buf), Ok(1));
     assert_eq!(rt; source.take(&mut buf), Err(Failed));
     assert_eq!(rt; source.take(&mut buf), Ok(1));
-    let bytes = Vec::new(rt.alloc());
-    let mut sink = StdSink::make(Slow { calls: 5, bytes });
+    let mut sink = StdSink::make(Slow { calls: 5 });
     assert_eq!(rt; sink.put(b"ab"), Ok(()));
     assert_eq!(rt; sink.put(b"cd"), Err(Trouble::Failed));
     assert_eq!(rt; sink.put(b"ef"), Ok(()));
@@ -257,37 +267,29 @@ fn answers_a_fault_in_mid_stream(rt: HostRuntime) -> Result<(), Fail> {
 #[test]
 fn adapts_folders(rt: HostRuntime) -> Result<(), Fail> {
     let _ = fs::remove_dir_all(&rt, FOLDER);
-    let names = [
-        "fb_outside_test/a/b.csv",
-        "fb_outside_test/a",
-        "fb_outside_test/a/b.csv/c",
-    ];
-    let [file, folder, below] = names.map(|text| named(&rt, text));
-    let (file, folder, below) = (file.as_str(), folder.as_str(), below.as_str());
+    let file = named(&rt, "fb_outside_test/a/b.csv");
     let mut store = FolderStore::make(rt.clone()?, rt.alloc());
-    let mut buf = [0; 4];
-    assert_eq!(rt; store.len(file), Ok(None));
-    assert_eq!(rt; store.read_at(file, 0, &mut buf), Ok(0));
-    assert_eq!(rt; store.put(file, b"old"), Ok(()));
-    assert_eq!(rt; store.put(file, b"123456"), Ok(()));
-    assert_eq!(rt; store.len(file), Ok(Some(6)));
-    assert_eq!(rt; store.read_at(file, 1, &mut buf), Ok(4));
-    assert_eq!(rt; buf, *b"2345");
-    assert_eq!(rt; store.read_at(file, 4, &mut buf), Ok(2));
-    assert_eq!(rt; buf, *b"5645");
-    assert_eq!(rt; store.read_at(file, 6, &mut buf), Ok(0));
-    assert_eq!(rt; store.read_at(file, u64::MAX, &mut buf), Ok(0));
-    // A folder in a file's place, and a file in a folder's, are faults.
-    assert_eq!(rt; store.len(folder), Err(Failed));
-    assert_eq!(rt; store.read_at(folder, 0, &mut buf), Err(Failed));
-    assert_eq!(rt; store.put(folder, b"x"), Err(Trouble::Failed));
-    assert_eq!(rt; store.len(below), Err(Failed));
-    assert_eq!(rt; store.read_at(below, 0, &mut buf), Err(Failed));
-    assert_eq!(rt; store.put(below, b"x"), Err(Trouble::Failed));
-    assert_eq!(rt; fs::read(&rt, file)?.as_slice(), b"123456".as_slice());
-    // No new file is left beside an old one.
-    assert_eq!(rt; fs::exists(&rt, "fb_outside_test/a/b.csv~")?, false);
-    assert_eq!(rt; fs::exists(&rt, "fb_outside_test/a~")?, false);
+    assert_eq!(rt; store.len(file.as_str()), Ok(None));
+    check_reads(&rt, &mut store, &file, &[(0, b"")]);
+    assert_eq!(rt; store.put(file.as_str(), b"old"), Ok(()));
+    assert_eq!(rt; store.put(file.as_str(), b"123456"), Ok(()));
+    assert_eq!(rt; store.len(file.as_str()), Ok(Some(6)));
+    let cases = [
+        (1, b"2345".as_slice()),
+        (4, b"56"),
+        (6, b""),
+        (u64::MAX, b""),
+    ];
+    check_reads(&rt, &mut store, &file, &cases);
+    // A folder in a file's place, and a file in a folder's, are faults, and no new file is left.
+    for text in ["fb_outside_test/a", "fb_outside_test/a/b.csv/c"] {
+        let name = named(&rt, text);
+        assert_eq!(rt; store.len(name.as_str()), Err(Failed));
+        assert_eq!(rt; store.read_at(name.as_str(), 0, &mut [0]), Err(Failed));
+        assert_eq!(rt; store.put(name.as_str(), b"x"), Err(Trouble::Failed));
+    }
+    assert!(rt; !fs::exists(&rt, "fb_outside_test/a~")?);
+    assert!(rt; fs::read(&rt, file.as_str())?.as_slice() == b"123456".as_slice());
     fs::remove_dir_all(&rt, FOLDER)?;
     Ok(())
 }

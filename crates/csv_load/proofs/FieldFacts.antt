@@ -117,7 +117,7 @@ pub come-more : (columns : List Column) (fields : List (List ℕ)) (i : ℕ) (fr
     → field_cell column.ty field ≡ Ok cell → Come columns fields i front → Come columns fields (i + 1) (front ++ cell ∷ [])
 come-more columns fields i front column field cell c f e h =
     h ∙ rw (field_cells-drop columns fields i column field c f)
-      (all_or_first-more (i + 1) front cell (field_cell column.ty field) (field_cells (drop (i + 1) columns) (drop (i + 1) fields)) e)
+    (all_or_first-more (i + 1) front cell (field_cell column.ty field) (field_cells (drop (i + 1) columns) (drop (i + 1) fields)) e)
 
 pub come-stops : (columns : List Column) (fields : List (List ℕ)) (i : ℕ) (front : List Cell) (column : Column) (field : List ℕ) (why : RecordKind)
     → drop i columns ≡ column ∷ drop (i + 1) columns → drop i fields ≡ field ∷ drop (i + 1) fields
@@ -126,21 +126,21 @@ pub come-stops : (columns : List Column) (fields : List (List ℕ)) (i : ℕ) (f
 unfolding record_cells
 come-stops columns fields i front column field why c f same e h =
     rw (eq-eqb (length fields) (length columns) same)
-      (h ∙ rw (field_cells-drop columns fields i column field c f)
-        (all_or_first-stops (i + 1) front why (field_cell column.ty field) (field_cells (drop (i + 1) columns) (drop (i + 1) fields)) e))
+    (h ∙ rw (field_cells-drop columns fields i column field c f)
+    (all_or_first-stops (i + 1) front why (field_cell column.ty field) (field_cells (drop (i + 1) columns) (drop (i + 1) fields)) e))
 
 pub come-all : (columns : List Column) (fields : List (List ℕ)) (i : ℕ) (front : List Cell)
     → length fields ≡ length columns → length columns ≤ i → Come columns fields i front → record_cells columns fields ≡ Ok front
 unfolding record_cells field_cells
 come-all columns fields i front same past h =
     rw (eq-eqb (length fields) (length columns) same)
-      (h ∙ all_or_first-end (i + 1) front (field_cells (drop i columns) (drop i fields)) (rw (drop_all i columns past) refl))
+    (h ∙ all_or_first-end (i + 1) front (field_cells (drop i columns) (drop i fields)) (rw (drop_all i columns past) refl))
 
 -- not one field for each column
 pub record_cells-count : (columns : List Column) (fields : List (List ℕ)) → length fields ≢ length columns
     → record_cells columns fields ≡ Err (min (length fields) (length columns) + 1, FieldCount)
 unfolding record_cells
-record_cells-count columns fields other = 
+record_cells-count columns fields other =
     let e : eqb (length fields) (length columns) ≡ false = ne_eqb (length fields) (length columns) other in rw e refl
 
 -- a fault of the field at hand is the fault of its record

@@ -34,7 +34,8 @@ all-stops {A} {E} n (Err e ∷ rest) place why h =
       before = [];
       after = rest;
       split = ap (λ (p : ℕ × E). Err p.1 ∷ rest) same;
-      counted = sym (ap (λ (p : ℕ × E). p.0) same) ∙ sym (add-zero n) }
+      counted = sym (ap (λ (p : ℕ × E). p.0) same) ∙ sym (add-zero n);
+    }
 all-stops {A} {E} n (Ok value ∷ rest) place why h = by (all_or_first (n + 1) rest) refl (all-stops (n + 1) rest place why)
   where
     by : (o : Result (List A) (ℕ × E)) → all_or_first (n + 1) rest ≡ o → (all_or_first (n + 1) rest ≡ Err (place, why) → StopsAt (n + 1) rest place why)
@@ -47,7 +48,8 @@ all-stops {A} {E} n (Ok value ∷ rest) place why h = by (all_or_first (n + 1) r
           before = value ∷ there.before;
           after = there.after;
           split = ap (λ t. Ok value ∷ t) there.split;
-          counted = omega (arith, there.counted) }
+          counted = omega (arith, there.counted);
+        }
 
 -- a load that gives records gives one of each record of the text
 pub loaded-each : (bytes : List ℕ) (columns : List Column) (skip : ℕ) (rows : List (List Cell)) → loaded bytes columns skip ≡ Ok rows
@@ -82,4 +84,4 @@ loaded-first bytes columns skip (at_record.Bad number field kind) h =
         let g : or_fault (Err p) ≡ Err (record { number = number; field = field; kind = kind }) = rw e at h in
         let same : fault_of p ≡ record { number = number; field = field; kind = kind } = cc in
         all-stops (skip + 1) (each_record bytes columns skip) number (field, kind)
-          (e ∙ ap (λ (f : Fault). Err (f.number, (f.field, f.kind))) same)
+        (e ∙ ap (λ (f : Fault). Err (f.number, (f.field, f.kind))) same)

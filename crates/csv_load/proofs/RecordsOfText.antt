@@ -38,7 +38,7 @@ choice-ends false p q h g = g
 in_field-ends : (cfg : Config) (c : ℕ) → EndsBetween (in_field cfg c)
 in_field-ends cfg c =
     choice-ends (c == cfg.delimiter) _ _ (λ e. cc e)
-      (choice-ends (ends_with cfg.terminator c) _ _ (λ e. after-between cfg.terminator c) (λ e. cc e))
+    (choice-ends (ends_with cfg.terminator c) _ _ (λ e. after-between cfg.terminator c) (λ e. cc e))
 
 start_field-ends : (cfg : Config) (c : ℕ) → EndsBetween (start_field cfg c)
 start_field-ends cfg c = choice-ends (cfg.quoting && (c == cfg.quote)) _ _ (λ e. cc e) (in_field-ends cfg c)
@@ -46,7 +46,7 @@ start_field-ends cfg c = choice-ends (cfg.quoting && (c == cfg.quote)) _ _ (λ e
 start_record-ends : (cfg : Config) (c : ℕ) → EndsBetween (start_record cfg c)
 start_record-ends cfg c =
     choice-ends (ends_with cfg.terminator c) _ _ (λ e. cc e)
-      (choice-ends (is_byte cfg.comment c) _ _ (λ e. cc e) (start_field-ends cfg c))
+    (choice-ends (is_byte cfg.comment c) _ _ (λ e. cc e) (start_field-ends cfg c))
 
 step-ends : (cfg : Config) (s : State) (c : ℕ) → EndsBetween (step cfg s c)
 step-ends cfg st.StartRecord c = start_record-ends cfg c
@@ -54,7 +54,7 @@ step-ends cfg st.StartField c = start_field-ends cfg c
 step-ends cfg st.InField c = in_field-ends cfg c
 step-ends cfg st.InQuoted c =
     choice-ends (cfg.quoting && (c == cfg.quote)) _ _ (λ e. cc e)
-      (choice-ends (cfg.quoting && is_byte cfg.escape c) _ _ (λ e. cc e) (λ e. cc e))
+    (choice-ends (cfg.quoting && is_byte cfg.escape c) _ _ (λ e. cc e) (λ e. cc e))
 step-ends cfg st.InEscape c = λ e. cc e
 step-ends cfg st.AfterQuote c =
     choice-ends (cfg.quoting && cfg.double_quote && (c == cfg.quote)) _ _ (λ e. cc e) (in_field-ends cfg c)
@@ -77,11 +77,11 @@ next-between cfg s fields field [] p e =
     (h.0, rw (← h.1) (omega arith))
 next-between cfg s fields field (c ∷ rest) p e =
     by (is_end (step cfg s c).1) refl
-      (next-between cfg (step cfg s c).0 (fields_after (step cfg s c).1 fields field) (field_after (step cfg s c).1 c field) rest p)
+    (next-between cfg (step cfg s c).0 (fields_after (step cfg s c).1 fields field) (field_after (step cfg s c).1 c field) rest p)
   where
     by : (b : Bool) → is_end (step cfg s c).1 ≡ b
         → (next_record cfg (step cfg s c).0 (fields_after (step cfg s c).1 fields field) (field_after (step cfg s c).1 c field) rest ≡ Some p
-            → Between p.1 × (length p.2 ≤ length rest))
+        → Between p.1 × (length p.2 ≤ length rest))
         → Between p.1 × (length p.2 ≤ length (c ∷ rest))
     by true t more =
         let d : Some (fields_after (step cfg s c).1 fields field, (step cfg s c).0, rest) ≡ Some p = rw t at e in

@@ -50,7 +50,11 @@ impl<T: Drop> From<AllocFailed<T>> for FieldFault {
 const LONGEST_TEXT: usize = 65535;
 
 /// The cells of a record, one for each column.
-pub(crate) fn cells_of(alloc: Global, columns: &[Column], row: &ByteRecord) -> Result<Vec<Cell>, FieldFault>
+pub(crate) fn cells_of(
+    alloc: Global,
+    columns: &[Column],
+    row: &ByteRecord,
+) -> Result<Vec<Cell>, FieldFault>
     requires { length columns.now ≤ 255 }
     ensures cells { IfOk result (λ cells. record_cells columns.now (fields_of row.now) ≡ Ok cells.items) }
     ensures fits { IfOk result (λ cells. RecordFits cells.items columns.now) }

@@ -23,7 +23,11 @@ const BLOCK: usize = 65536;
 
 /// Reads a source to its end, which may have up to `limit` bytes. A longer one is refused as soon as more
 /// than `limit` bytes came.
-pub fn read_input<I: Source>(alloc: Global, input: &mut I, limit: u64) -> Result<Vec<u8>, InputFault>
+pub fn read_input<I: Source>(
+    alloc: Global,
+    input: &mut I,
+    limit: u64,
+) -> Result<Vec<u8>, InputFault>
     ensures cause { HasCause (I.faults input.old) (I.faults input.new) (IsErrOf result InputFault.ReadFault) }
     ensures taken { IfOk result (λ bytes. Takes (I.left input.old) (I.left input.new) bytes.items) }
     ensures end { OnOk result (IsAtEnd (I.left input.new)) }
@@ -43,7 +47,12 @@ fn zeros(alloc: Global, count: usize) -> Result<Vec<u8>, AllocError>
 }
 
 // The same, through a block of any size.
-fn read_by_blocks<I: Source>(alloc: Global, input: &mut I, block: &mut [u8], limit: u64) -> Result<Vec<u8>, InputFault>
+fn read_by_blocks<I: Source>(
+    alloc: Global,
+    input: &mut I,
+    block: &mut [u8],
+    limit: u64,
+) -> Result<Vec<u8>, InputFault>
     requires { 0 < length block.old }
     ensures cause { HasCause (I.faults input.old) (I.faults input.new) (IsErrOf result InputFault.ReadFault) }
     ensures taken { IfOk result (λ bytes. Takes (I.left input.old) (I.left input.new) bytes.items) }

@@ -9,3 +9,6 @@ mod rows;
 pub use fields::RecordKind;
 pub use input::{InputFault, read_input};
 pub use load::{RecordFault, records};
+
+#[cfg(test)]
+mod tests;

@@ -35,7 +35,12 @@ impl From<AllocError> for RecordFault {
 
 /// The records of a CSV text, without the first `skip`, under a schema: no header, fields parted by commas and
 /// quoted by double quotes, one for each column. The dropped records may be anything.
-pub fn records(alloc: Global, bytes: &[u8], schema: &Schema, skip: u64) -> Result<Columns, RecordFault>
+pub fn records(
+    alloc: Global,
+    bytes: &[u8],
+    schema: &Schema,
+    skip: u64,
+) -> Result<Columns, RecordFault>
     ensures schema { IfOk result (λ columns. columns.schema ≡ schema.now) }
     ensures records { IfOk result (λ columns. loaded bytes.now schema.now skip ≡ Ok columns.records) }
     ensures fault { IfErr result (λ fault. IsRecordFault fault (loaded bytes.now schema.now skip)) }
@@ -52,13 +57,16 @@ pub fn records(alloc: Global, bytes: &[u8], schema: &Schema, skip: u64) -> Resul
 }
 
 // The rest of the records, of which the first has the number after `skipped`.
-fn load_rows(alloc: Global, rdr: &mut Reader<&[u8]>, schema: &Schema, skipped: u64) -> Result<Columns, RecordFault>
+fn load_rows(
+    alloc: Global,
+    rdr: &mut Reader<&[u8]>,
+    schema: &Schema,
+    skipped: u64,
+) -> Result<Columns, RecordFault>
     requires plain { IsPlain rdr.old }
     requires fits { 0 < length (rows_left rdr.old) → skipped + length (rows_left rdr.old) < 2 ^ 64 }
     ensures schema { IfOk result (λ columns. columns.schema ≡ schema.now) }
-    ensures records {
-        IfOk result (λ columns. loaded_from (skipped + 1) schema.now (rows_left rdr.old) ≡ Ok columns.records)
-    }
+    ensures records { IfOk result (λ columns. loaded_from (skipped + 1) schema.now (rows_left rdr.old) ≡ Ok columns.records) }
     ensures fault { IfErr result (λ fault. IsRecordFault fault (loaded_from (skipped + 1) schema.now (rows_left rdr.old))) }
 {
     let mut columns = Columns::make(alloc, schema)?;

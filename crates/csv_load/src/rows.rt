@@ -22,9 +22,7 @@ pub(crate) fn reader_over(alloc: Global, bytes: &[u8]) -> Reader<&[u8]>
 pub(crate) fn next_row(rdr: &mut Reader<&[u8]>, row: &mut ByteRecord) -> Result<bool, AllocError>
     requires { IsPlain rdr.old }
     ensures plain { IfOk result (λ found. found ≡ true → IsPlain rdr.new) }
-    ensures row {
-        IfOk result (λ found. rows_left rdr.old ≡ (if found then fields_of row.new ∷ rows_left rdr.new else []))
-    }
+    ensures row { IfOk result (λ found. rows_left rdr.old ≡ (if found then fields_of row.new ∷ rows_left rdr.new else [])) }
 {
     let Ok(found) = rdr.read_byte_record(row) else {
         return Err(AllocError);
@@ -33,12 +31,14 @@ pub(crate) fn next_row(rdr: &mut Reader<&[u8]>, row: &mut ByteRecord) -> Result<
 }
 
 /// Reads past the next `count` records, and answers whether there were that many.
-pub(crate) fn skip_rows(alloc: Global, rdr: &mut Reader<&[u8]>, count: u64) -> Result<bool, AllocError>
+pub(crate) fn skip_rows(
+    alloc: Global,
+    rdr: &mut Reader<&[u8]>,
+    count: u64,
+) -> Result<bool, AllocError>
     requires { IsPlain rdr.old }
     ensures plain { IfOk result (λ more. more ≡ true → IsPlain rdr.new) }
-    ensures rows {
-        IfOk result (λ more. drop count (rows_left rdr.old) ≡ (if more then rows_left rdr.new else []))
-    }
+    ensures rows { IfOk result (λ more. drop count (rows_left rdr.old) ≡ (if more then rows_left rdr.new else [])) }
 {
     let mut row = ByteRecord::new(alloc);
     for _ in 0..count {

@@ -34,7 +34,7 @@ pub returns-clause-fault : goal.returns-clause-fault
 returns-clause-fault c =
     let e : is_some (ends_of c.args.ty) ≡ true = search rules in
     rw (field_cell-whole c.args.ty c.args.bytes.now e, ← c.parse_whole.ensures)
-      (elim c.match-parse_whole.branch [
-        | in-OutOfRange w ↦ rw (w.in-OutOfRange.is, w.kind-is) refl
-        | in-NotWhole w ↦ elim w.in-NotWhole.is [ inl word ↦ rw (word, w.kind-is) refl | inr blank ↦ rw (blank, w.kind-is) refl ]
-      ])
+    (elim c.match-parse_whole.branch [
+      | in-OutOfRange w ↦ rw (w.in-OutOfRange.is, w.kind-is) refl
+      | in-NotWhole w ↦ elim w.in-NotWhole.is [ inl word ↦ rw (word, w.kind-is) refl | inr blank ↦ rw (blank, w.kind-is) refl ]
+    ])

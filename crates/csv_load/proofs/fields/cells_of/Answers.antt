@@ -28,7 +28,7 @@ column_at columns i column h e = rw (add-one) (drop-cons columns i column h ∙ 
 pub returns-then-len-columns-clause-fault : goal.returns-then-len-columns-clause-fault
 returns-then-len-columns-clause-fault c =
     rw (c.min.ensures, c.len-then-len-columns.ensures)
-      (record_cells-count c.args.columns.now (fields_of c.args.row.now) (λ e. c.if-len-columns.true (c.len.ensures ∙ e)))
+    (record_cells-count c.args.columns.now (fields_of c.args.row.now) (λ e. c.if-len-columns.true (c.len.ensures ∙ e)))
 
 pub unwrap-field-requires : goal.unwrap-field-requires
 unwrap-field-requires c =
@@ -40,12 +40,12 @@ returns-in_err-cell_of-clause-fault c =
     let columns = c.args.columns.now in
     let fields = fields_of c.args.row.now in
     rw (p.1, p.2)
-      (fault-at _ (c.loop-index.index + 1) _ _
-        (λ why e. come-stops columns fields c.loop-index.index c.loop-index.cells.items c.index-columns-index.result c.unwrap-field.result.now why
-          (column_at columns c.loop-index.index c.index-columns-index.result c.loop-index-test.true c.index-columns-index.is)
-          (got fields c.loop-index.index c.unwrap-field.result.now (omega arith) (rw c.unwrap-field.ensures at c.get.ensures.value))
-          (sym c.len.ensures ∙ c.if-len-columns.false) e c.loop-index.invariant.split)
-        c.in_err-cell_of.ensures.fault)
+    (fault-at _ (c.loop-index.index + 1) _ _
+    (λ why e. come-stops columns fields c.loop-index.index c.loop-index.cells.items c.index-columns-index.result c.unwrap-field.result.now why
+    (column_at columns c.loop-index.index c.index-columns-index.result c.loop-index-test.true c.index-columns-index.is)
+    (got fields c.loop-index.index c.unwrap-field.result.now (omega arith) (rw c.unwrap-field.ensures at c.get.ensures.value))
+    (sym c.len.ensures ∙ c.if-len-columns.false) e c.loop-index.invariant.split)
+    c.in_err-cell_of.ensures.fault)
 
 pub loop-index-preserved : goal.loop-index-preserved
 loop-index-preserved c =
@@ -55,17 +55,18 @@ loop-index-preserved c =
     let column = c.index-columns-index.result in
     let cell = c.in_ok-cell_of.ensures in
     let more : take (i + 1) columns ≡ take i columns ++ column ∷ [] =
-      take_more columns i column c.loop-index-test.true ∙ ap (λ x. take i columns ++ x ∷ []) (sym c.index-columns-index.is) in
+    take_more columns i column c.loop-index-test.true ∙ ap (λ x. take i columns ++ x ∷ []) (sym c.index-columns-index.is) in
     record {
       split = rw c.in_ok-push.ensures.items
-        (come-more columns fields i c.loop-index.cells.items column c.unwrap-field.result.now _
+          (come-more columns fields i c.loop-index.cells.items column c.unwrap-field.result.now _
           (column_at columns i column c.loop-index-test.true c.index-columns-index.is)
           (got fields i c.unwrap-field.result.now (omega arith) (rw c.unwrap-field.ensures at c.get.ensures.value))
           cell.cell c.loop-index.invariant.split);
       fits = rw (c.in_ok-push.ensures.items, more)
-        (RecordFits-push c.loop-index.cells.items (take i columns) _ column c.loop-index.invariant.fits cell.fits) }
+          (RecordFits-push c.loop-index.cells.items (take i columns) _ column c.loop-index.invariant.fits cell.fits);
+    }
 
 pub returns-clause-cells : goal.returns-clause-cells
 returns-clause-cells c =
     come-all c.args.columns.now (fields_of c.args.row.now) c.loop-index.index c.loop-index.cells.items
-      (sym c.len.ensures ∙ c.if-len-columns.false) c.loop-index-test.false c.loop-index.invariant.split
+    (sym c.len.ensures ∙ c.if-len-columns.false) c.loop-index-test.false c.loop-index.invariant.split

@@ -22,9 +22,9 @@ pub returns-in-Err-clause-fault : goal.returns-in-Err-clause-fault
 returns-in-Err-clause-fault c =
     let left = rw c.if-branch.true at c.in_ok-next_row.ensures.row in
     rw c.in_record.ensures
-      (fault-in _ (c.loop-row.number + 1) _ _
-        (λ why e. load-stops c.args.schema.now (c.loop-row.number + 1) c.loop-row.columns.records _ _ _ why _ left c.loop-row.invariant.split e)
-        (rw c.columns-in-loop-row.ensures.value at c.in-Err.ensures.fault))
+    (fault-in _ (c.loop-row.number + 1) _ _
+    (λ why e. load-stops c.args.schema.now (c.loop-row.number + 1) c.loop-row.columns.records _ _ _ why _ left c.loop-row.invariant.split e)
+    (rw c.columns-in-loop-row.ensures.value at c.in-Err.ensures.fault))
 
 pub returns-clause-records : goal.returns-clause-records
 returns-clause-records c =

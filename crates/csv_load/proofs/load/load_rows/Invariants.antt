@@ -9,7 +9,7 @@ invariant-loop-row l = record {
   plain : IsPlain l.rdr;
   schema : l.columns.schema ≡ l.schema;
   split : all_or_first (l.skipped + 1) (map (record_cells l.schema) (rows_left l.fn.rdr))
-    ≡ behind l.columns.records (all_or_first (l.number + 1) (map (record_cells l.schema) (rows_left l.rdr)));
+      ≡ behind l.columns.records (all_or_first (l.number + 1) (map (record_cells l.schema) (rows_left l.rdr)));
   fits : 0 < length (rows_left l.rdr) → l.number + length (rows_left l.rdr) < 2 ^ 64;
 }
 

@@ -13,7 +13,7 @@ pub returns-then-not-branch-clause-records : goal.returns-then-not-branch-clause
 returns-then-not-branch-clause-records c =
     let rest = rw (c.if-not-branch.true, c.reader_over-rdr.ensures.all) at c.in_ok-skip_rows.ensures.rows in
     rw c.in_ok-make.ensures
-      (loaded-rest c.args.bytes.now c.args.schema.now c.args.skip _ rest ∙ loaded_from-none (c.args.skip + 1) c.args.schema.now)
+    (loaded-rest c.args.bytes.now c.args.schema.now c.args.skip _ rest ∙ loaded_from-none (c.args.skip + 1) c.args.schema.now)
 
 pub load_rows-requires-clause-fits : goal.load_rows-requires-clause-fits
 load_rows-requires-clause-fits c = λ some.

@@ -1,3 +1,5 @@
+ghost use Rattle.std.specs.Prelude.{◌<◌, length};
+
 use crate::{InputFault, RecordFault, RecordKind, read_input, records};
 use fb_outside::MemSource;
 use fb_types::{Columns, parse_schema};
@@ -60,11 +62,20 @@ fn is_too_long(answer: &Result<Vec<u8>, InputFault>, at: u64) -> bool {
     }
 }
 
-// The number of the first column, where the row is there.
-fn number_at(columns: &Columns, row: u64) -> Option<i128> {
-    if row >= columns.rows() {
-        return None;
+// The numbers of the first column that aren't null.
+fn numbers_of(alloc: Global, columns: &Columns) -> Result<Vec<i128>, AllocError> {
+    let mut numbers = Vec::new(alloc);
+    for row in 0..columns.rows() {
+        if let Some(number) = number_at(columns, row) {
+            numbers.push(number)?;
+        }
     }
+    Ok(numbers)
+}
+
+fn number_at(columns: &Columns, row: u64) -> Option<i128>
+    requires { row < length columns.now.records }
+{
     match columns.schema().columns().first() {
         Some(column) if column.ty.ends().is_some() => columns.whole(row, 0),
         _ => None,
@@ -99,15 +110,11 @@ fn loads_records(rt: HostRuntime) -> Result<(), Fail> {
     ] {
         let columns = records(alloc, text.as_bytes(), &schema, skip)?;
         assert_eq!(rt; columns.rows(), numbers.len() as u64, "rows of {text:?}");
-        let mut row = 0;
-        for number in numbers {
-            assert_eq!(rt;
-                number_at(&columns, row),
-                Some(*number),
-                "row {row} of {text:?}"
-            );
-            row += 1;
-        }
+        assert_eq!(rt;
+            numbers_of(alloc, &columns)?.as_slice(),
+            numbers,
+            "{text:?}"
+        );
     }
     Ok(())
 }

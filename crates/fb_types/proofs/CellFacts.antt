@@ -103,3 +103,17 @@ word_column_within (column ∷ columns) (suc col) other = omega (arith, word_col
 pub copied_word : (found : Option (Bor (List ℕ))) (cell : Cell) → option_copied found ≡ word_in cell → MatchOption (word_in cell) (cell ≡ Null) (λ word. cell ≡ Word word) → MatchOption found (cell ≡ Null) (λ word. cell ≡ Word word.now)
 copied_word None cell same fits = let M : Option (List ℕ) → Type 0 = λ o. MatchOption o (cell ≡ Null) (λ word. cell ≡ Word word) in subst M (sym same) fits
 copied_word (Some word) cell same fits = let M : Option (List ℕ) → Type 0 = λ o. MatchOption o (cell ≡ Null) (λ word. cell ≡ Word word) in subst M (sym same) fits
+
+-- one cell more, in one column more
+pub RecordFits-push : (cells : List Cell) (columns : List Column) (cell : Cell) (column : Column) → RecordFits cells columns → CellFits cell column.ty → RecordFits (cells ++ cell ∷ []) (columns ++ column ∷ [])
+RecordFits-push [] [] cell column fits one = (one, tt)
+RecordFits-push [] (d ∷ columns) cell column fits one = absurd fits
+RecordFits-push (c ∷ cells) [] cell column fits one = absurd fits
+RecordFits-push (c ∷ cells) (d ∷ columns) cell column fits one = (fits.0, RecordFits-push cells columns cell column fits.1 one)
+
+-- the cell at a place fits its column
+pub CellFits-at : (cells : List Cell) (columns : List Column) (at : ℕ) (cell : Cell) (column : Column) → RecordFits cells columns → at < length cells → cell ≡ get_or cells at cell → CellFits cell (get_or columns at column).ty
+CellFits-at [] columns at cell column fits within is = absurd (omega arith)
+CellFits-at (c ∷ cells) [] at cell column fits within is = absurd fits
+CellFits-at (c ∷ cells) (d ∷ columns) zero cell column fits within is = let Fits : Cell → Type 0 = λ x. CellFits x d.ty in subst Fits (sym is) fits.0
+CellFits-at (c ∷ cells) (d ∷ columns) (suc at) cell column fits within is = CellFits-at cells columns at cell column fits.1 (omega arith) is

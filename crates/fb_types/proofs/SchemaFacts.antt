@@ -16,16 +16,16 @@ none_of_cond true n is = cc
 none_of_cond false n is = refl
 
 not_true : (b : Bool) → not b ≡ true → b ≡ true → ⊥
-not_true true no yes = cc
-not_true false no yes = cc
+not_true true h k = cc
+not_true false h k = cc
 
 -- where no column has the name, each column's name differs from it
 pub other_names : (columns : List Column) (name : List ℕ) → place_of columns name ≡ None → (k : ℕ) (d : Column) → k < length columns → (get_or columns k d).name ≢ name
 other_names columns name none k d within same =
     let p : Column → Bool = λ column. bytes_eq column.name name in
     let past : length columns ≤ position_or_len p columns = ltb-false (position_or_len p columns) (length columns) (none_of_cond _ _ none) in
-    let no = prefix_len_passes (λ column. not (p column)) columns k d (omega arith) in
-    not_true (p (get_or columns k d)) no ((bytes_eq-Decides _ _).1 same)
+    let passed = prefix_len_passes (λ column. not (p column)) columns k d (omega arith) in
+    not_true (p (get_or columns k d)) passed ((bytes_eq-Decides _ _).1 same)
 
 pub IsSchema-push : (columns : List Column) (column : Column) → IsSchema columns → IsColumnName column.name → place_of columns column.name ≡ None → length columns < 255 → IsSchema (columns ++ column ∷ [])
 IsSchema-push columns column valid named none room =

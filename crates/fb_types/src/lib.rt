@@ -13,7 +13,7 @@ mod table;
 mod tests;
 mod types;
 
-pub use cells::Cell;
+pub use cells::{Cell, record_fits};
 pub use fields::{FieldAnswer, parse_whole};
 pub use labels::Label;
 pub use names::ColName;

@@ -1,8 +1,9 @@
 use super::*;
 use std::alloc::Global;
+use std::process::Abort;
 use std::test::Fail;
 
-fn two_columns(alloc: Global, rt: &impl std::process::Abort) -> Result<Schema, Fail> {
+fn two_columns(alloc: Global, rt: &impl Abort) -> Result<Schema, Fail> {
     let mut schema = parse_schema(alloc, "A:int")?;
     let name = ColName::from_bytes(alloc, b"b")?.expect(rt, "a name");
     assert!(rt; schema.place(name.bytes()).is_none());
@@ -43,8 +44,8 @@ fn names(rt: HostRuntime) -> Result<(), Fail> {
         }
     }
     let label = Label::from_bytes(alloc, b"x")?;
-    assert!(rt; label.bytes() == b"x");
-    assert!(rt; label.copy(alloc)?.bytes() == [0x78]);
+    assert!(rt; label.bytes() == b"x".as_slice());
+    assert!(rt; label.copy(alloc)?.bytes() == [0x78].as_slice());
     Ok(())
 }
 
@@ -74,9 +75,9 @@ fn schemas(rt: HostRuntime) -> Result<(), Fail> {
         }
     }
     let schema = parse_schema(alloc, "A:int")?;
-    assert!(rt; print_schema(alloc, &schema)?.bytes() == b"a:int");
+    assert!(rt; print_schema(alloc, &schema)?.bytes() == b"a:int".as_slice());
     let schema = two_columns(alloc, &rt)?.copy(alloc)?;
-    assert!(rt; print_schema(alloc, &schema)?.bytes() == b"a:int,b:category");
+    assert!(rt; print_schema(alloc, &schema)?.bytes() == b"a:int,b:category".as_slice());
     assert_eq!(rt; schema.place(b"b"), Some(1));
     assert_eq!(rt; schema.place(b"B"), None);
     Ok(())
@@ -139,10 +140,44 @@ fn tables(rt: HostRuntime) -> Result<(), Fail> {
     let alloc = rt.alloc();
     let mut columns = Columns::make(alloc, &two_columns(alloc, &rt)?)?;
     assert_eq!(rt; columns.rows(), 0);
-    let one = vec![in alloc;
-        Cell::Whole(-1),
-        Cell::Word(Label::from_bytes(alloc, b"a,b")?),
-    ]?;
-    columns.push(one)?;
+    push(
+        &rt,
+        &mut columns,
+        vec![in alloc; Cell::Whole(1), word(alloc, b"x")?]?,
+    )?;
+    push(&rt, &mut columns, vec![in alloc; Cell::Null, Cell::Null]?)?;
+    push(
+        &rt,
+        &mut columns,
+        vec![in alloc; Cell::Whole(-2147483648), word(alloc, b"a,b")?]?,
+    )?;
+    assert_eq!(rt; columns.rows(), 3);
+    for (row, whole, word) in [
+        (0, Some(1), Some(b"x".as_slice())),
+        (1, None, None),
+        (2, Some(-2147483648), Some(b"a,b")),
+    ] {
+        assert!(rt; is_row(&columns, row, whole, word), "at {row}");
+    }
+    Ok(())
+}
+
+fn is_row(columns: &Columns, row: u64, whole: Option<i128>, word: Option<&[u8]>) -> bool {
+    let types = columns.schema().columns();
+    row < columns.rows()
+        && types.len() == 2
+        && types[0].ty.ends().is_some()
+        && types[1].ty.ends().is_none()
+        && columns.whole(row, 0) == whole
+        && columns.word(row, 1) == word
+}
+
+fn word(alloc: Global, bytes: &[u8]) -> Result<Cell, Fail> {
+    Ok(Cell::Word(Label::from_bytes(alloc, bytes)?))
+}
+
+fn push(rt: &impl Abort, columns: &mut Columns, cells: Vec<Cell>) -> Result<(), Fail> {
+    assert!(rt; record_fits(&cells, columns.schema().columns()));
+    columns.push(cells)?;
     Ok(())
 }

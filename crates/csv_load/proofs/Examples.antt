@@ -1,5 +1,5 @@
 -- The definition, computed by hand on short texts.
-use Rattle.std.proofs.Common.{◌≡◌, ◌∷◌, [], Ok, Err, List, ℕ, pos, refl}
+use Rattle.std.proofs.Common.{◌≡◌, ◌∷◌, [], Ok, Err, List, pos, refl}
 use lib.Chars.{codes}
 use Rattle.csv.proofs.OnLiterals.{csv_on_literals}
 use Rattle.fb_types.specs.declared.cells.Cell.TheVariants as cell

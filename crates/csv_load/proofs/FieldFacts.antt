@@ -1,5 +1,5 @@
 -- The cell of a field, by the type of its column.
-use Rattle.std.proofs.Common.{◌≡◌, ◌+◌, ◌<◌, ◌&&◌, ◌++◌, ◌∙◌, ◌≢◌, ◌≤◌, eq-eqb, eqb, min, ℤ, ◌≤ℤ◌, ℕ, zero, suc, List, [], ◌∷◌, Bool, true, false, Option, Some, None, Result, Ok, Err, add-one, ap, append_assoc, arith, drop, if◌then◌else◌, length, refl, rules, sym}
+use Rattle.std.proofs.Common.{◌≡◌, ◌+◌, ◌<◌, ◌++◌, ◌∙◌, ◌≢◌, ◌≤◌, eq-eqb, eqb, min, ℤ, ◌≤ℤ◌, ℕ, zero, suc, List, [], ◌∷◌, Bool, true, false, Option, Some, None, Result, Ok, Err, add-one, ap, append_assoc, arith, drop, length, refl, sym}
 use Rattle.std.proofs.lemmas.List.{append-nil, drop_all}
 use Rattle.std.proofs.lemmas.Bool.{ne_eqb}
 use Rattle.std.specs.Prelude.{MatchOption, int_le, is_some}

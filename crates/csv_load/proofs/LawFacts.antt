@@ -1,10 +1,10 @@
 -- `all_or_first` gives all the values, or stops at the first that is missing.
-use Rattle.std.proofs.Common.{◌≡◌, ◌+◌, ◌++◌, ◌∙◌, ◌∷◌, [], ℕ, List, Result, Ok, Err, add-zero, ap, arith, drop, length, map, refl, rules, sym}
+use Rattle.std.proofs.Common.{◌≡◌, ◌+◌, ◌∙◌, ◌∷◌, [], ℕ, List, Result, Ok, Err, add-zero, ap, arith, map, refl, sym}
 use Rattle.fb_types.specs.declared.cells.Cell.{Cell}
 use Rattle.fb_types.specs.declared.schemas.Column.{Column}
 use Rattle.csv_load.specs.Answers.{IsRecordFault}
 use Rattle.csv_load.specs.Law.{IsFirstFault, StopsAt, each_record}
-use Rattle.csv_load.specs.Loaded.{Fault, all_or_first, behind, loaded, or_fault, record_cells, text_records}
+use Rattle.csv_load.specs.Loaded.{Fault, all_or_first, loaded, or_fault}
 use Rattle.csv_load.specs.declared.fields.RecordKind.{RecordKind}
 use Rattle.csv_load.specs.declared.load.RecordFault.{RecordFault}
 use Rattle.csv_load.specs.declared.load.RecordFault.TheVariants as at_record

@@ -1,5 +1,5 @@
 -- At each turn the columns and the fields that are left begin with those of the turn.
-use Rattle.std.proofs.Common.{◌≡◌, ◌<◌, ◌+◌, ◌∷◌, [], ◌++◌, ◌∙◌, List, ℕ, Option, Some, None, add-one, ap, drop-cons, suc, arith, drop, get_or, is_ok, length, refl, rules, sym, take, true}
+use Rattle.std.proofs.Common.{◌≡◌, ◌<◌, ◌+◌, ◌∷◌, [], ◌++◌, ◌∙◌, List, ℕ, Option, Some, None, add-one, ap, drop-cons, suc, arith, drop, get_or, length, refl, sym, take}
 use Rattle.std.proofs.lemmas.List.{take_more}
 use Rattle.std.proofs.lemmas.Result.{err_from_is_err_and}
 use Rattle.std.specs.Option.{IsSome, option_map}

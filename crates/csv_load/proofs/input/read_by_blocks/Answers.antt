@@ -1,5 +1,5 @@
 -- After a turn, what came before it and what it gave were taken.
-use Rattle.std.proofs.Common.{◌≡◌, ◌++◌, ◌+◌, ◌-◌, ◌<◌, ◌≤◌, arith, length, length-append, refl, rules, take}
+use Rattle.std.proofs.Common.{◌≡◌, ◌++◌, ◌+◌, arith, length, length-append, refl, take}
 use Rattle.std.proofs.lemmas.List.{length-take}
 use Rattle.fb_outside.proofs.StreamLemmas.{Takes-append}
 use Rattle.csv_load.proofs.input.read_by_blocks.Goals as goal

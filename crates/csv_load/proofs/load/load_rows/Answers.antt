@@ -1,6 +1,5 @@
 -- A read takes the first of the records that are left, and its cells stand behind those so far.
-use Rattle.std.proofs.Common.{add-one, ◌≡◌, ◌∷◌, ◌+◌, ◌<◌, ◌^◌, ◌∙◌, ap, arith, length, refl, sym}
-use Rattle.csv.specs.Records.{fields_of}
+use Rattle.std.proofs.Common.{add-one, ◌≡◌, ◌+◌, ◌∙◌, ap, arith, length, sym}
 use Rattle.csv_load.specs.RowsLeft.{rows_left}
 use Rattle.csv_load.proofs.LoadFacts.{fault-in, load-end, load-more, load-stops}
 use Rattle.csv_load.proofs.load.load_rows.Goals as goal

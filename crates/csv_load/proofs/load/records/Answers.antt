@@ -1,5 +1,5 @@
 -- The records that are left after the skipped ones are those of the text.
-use Rattle.std.proofs.Common.{◌≡◌, ◌+◌, ◌<◌, ◌≤◌, ◌^◌, ◌∙◌, ap, arith, drop, length, refl, sym}
+use Rattle.std.proofs.Common.{◌≡◌, ◌+◌, ◌∙◌, ap, arith, drop, length}
 use Rattle.std.proofs.lemmas.List.{length-drop}
 use Rattle.csv_load.specs.Loaded.{text_records}
 use Rattle.csv_load.specs.RowsLeft.{rows_left}

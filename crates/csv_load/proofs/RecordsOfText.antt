@@ -1,7 +1,7 @@
 -- The reads of a reader, one after the other, give the list of all the records of a text.
 use Rattle.std.proofs.Common.{◌≡◌, ◌≤◌, ◌<◌, ◌+◌, ◌==◌, ◌&&◌, ℕ, zero, suc, List, [], ◌∷◌, ◌++◌, length, Option, Some, None, Bool, true, false, if◌then◌else◌, refl, ap, arith, ◌∙◌, inl, add-one, IsSome, Bor, rules}
 use Rattle.csv.specs.Machine.{Read, after_end, ends_at_end, ends_with, field_after, fields_after, in_field, is_byte, is_end, next_record, start_field, start_record, step, carriage_return, line_feed}
-use Rattle.csv.specs.Reading.{is_bom, strip_bom, NextIs, ReadRecord, ReadsNext, default_config, pending_of, records_from, records_next}
+use Rattle.csv.specs.Reading.{is_bom, strip_bom, NextIs, ReadRecord, ReadsNext, default_config, is_flexible, pending_of, records_from, records_next}
 use Rattle.csv.specs.declared.reader.Reader.{Reader}
 use Rattle.csv_load.specs.RowsLeft.{IsPlain, bytes_left, records_left, rows_left}
 use Rattle.csv_load.specs.Loaded.{text_records}
@@ -182,13 +182,13 @@ next-ends s s2 y (Some z) f h = by (next_record default_config s [] [] y) refl h
     by (Some p) e n = cc n.0
 
 -- a read that found a record gives the first of those that were left, and leaves the others
-pub read-left : (a b : Reader (Bor (List ℕ))) (f : List (List ℕ)) → IsPlain a → ReadRecord known a b true f → b.first ≡ true
+pub read-left : (a b : Reader (Bor (List ℕ))) (f : List (List ℕ)) → IsPlain a → ReadRecord known a b true f → b.first ≡ true → is_flexible b ≡ is_flexible a
     → IsPlain b × (rows_left a ≡ f ∷ rows_left b)
-read-left a b f p r first =
+read-left a b f p r first free =
     let t = told-some (bytes_left a) p.told in
     let n = next-left a.state b.state t.0 (pending_of (Some b.rdr.now) b) f p.between (rw (p.config, t.1) at r.0) in
     let same : bytes_left b ≡ pending_of (Some b.rdr.now) b = rw r.1 refl in
-    (record { config = r.2 ∙ p.config; trims = r.3 ∙ p.trims; ready = inl first; between = n.0; told = rw same n.1 }, rw (t.1, same) n.2)
+    (record { config = r.2 ∙ p.config; trims = r.3 ∙ p.trims; flexible = free ∙ p.flexible; ready = inl first; between = n.0; told = rw same n.1 }, rw (t.1, same) n.2)
 
 -- a read that found none comes where none was left
 pub read-end : (a b : Reader (Bor (List ℕ))) (f : List (List ℕ)) → IsPlain a → ReadRecord known a b false f → rows_left a ≡ []
@@ -197,10 +197,10 @@ read-end a b f p r =
     rw t.1 (next-ends a.state b.state t.0 (pending_of (Some b.rdr.now) b) f (rw (p.config, t.1) at r.0))
 
 -- what a read does, whether it found a record or not
-pub read-either : (a b : Reader (Bor (List ℕ))) (found : Bool) (f : List (List ℕ)) → IsPlain a → ReadRecord known a b found f → b.first ≡ true
+pub read-either : (a b : Reader (Bor (List ℕ))) (found : Bool) (f : List (List ℕ)) → IsPlain a → ReadRecord known a b found f → b.first ≡ true → is_flexible b ≡ is_flexible a
     → (found ≡ true → IsPlain b) × (rows_left a ≡ (if found then f ∷ rows_left b else []))
-read-either a b true f p r first = let h = read-left a b f p r first in ((λ _. h.0), h.1)
-read-either a b false f p r first = ((λ e. cc e), read-end a b f p r)
+read-either a b true f p r first free = let h = read-left a b f p r first free in ((λ _. h.0), h.1)
+read-either a b false f p r first free = ((λ e. cc e), read-end a b f p r)
 
 -- no byte order mark lengthens a text
 length-strip_bom : (xs : List ℕ) → length (strip_bom xs) ≤ length xs

@@ -1,8 +1,8 @@
 -- What a reader over a byte slice has still to give.
-use Rattle.std.specs.Prelude.{◌≡◌, ◌+◌, false, ℕ, List, [], length, Option, Some, None, IsSome}
+use Rattle.std.specs.Prelude.{◌≡◌, ◌+◌, true, false, ℕ, List, [], length, Option, Some, None, IsSome}
 use Rattle.std.specs.Borrow.{Bor}
 use Rattle.csv.specs.Machine.{ends_at_end}
-use Rattle.csv.specs.Reading.{Ready, default_config, reader_config, reader_state, reader_trim, records_from, source_of}
+use Rattle.csv.specs.Reading.{Ready, default_config, is_flexible, reader_config, reader_state, reader_trim, records_from, source_of}
 use Rattle.csv.specs.declared.parser.State.{State}
 use Rattle.csv.specs.declared.reader.Reader.{Reader}
 use Rattle.csv.specs.declared.reader.Trim.TheVariants as trim
@@ -24,6 +24,7 @@ rows_left rdr = records_left (bytes_left rdr) (reader_state rdr)
 pub record IsPlain (rdr : Reader (Bor (List ℕ))) : Type 0 where
   pub config : reader_config rdr ≡ default_config
   pub trims : reader_trim rdr ≡ trim.None
+  pub flexible : is_flexible rdr ≡ true
   pub ready : Ready rdr
   pub between : ends_at_end (reader_state rdr) ≡ false
   pub told : IsSome (bytes_left rdr)

@@ -1,10 +1,11 @@
 //! A reader over a byte slice, seen as the records that it has still to give.
 ghost use Rattle.std.specs.Prelude.{◌≡◌, [], ◌∷◌, true, if◌then◌else◌, drop, IfOk};
+ghost use Rattle.csv.specs.Reading.{error_kind, stops_reader};
 ghost use Rattle.csv.specs.Records.{fields_of};
 ghost use Rattle.csv_load.specs.Loaded.{text_records};
 ghost use Rattle.csv_load.specs.RowsLeft.{IsPlain, rows_left};
 
-use csv::{ByteRecord, Reader, ReaderBuilder};
+use csv::{ByteRecord, Error, Reader, ReaderBuilder};
 use std::alloc::{AllocError, Global};
 
 /// A reader of the records of `bytes`: no header, commas, double quotes, records of any lengths.
@@ -24,10 +25,18 @@ pub(crate) fn next_row(rdr: &mut Reader<&[u8]>, row: &mut ByteRecord) -> Result<
     ensures plain { IfOk result (λ found. found ≡ true → IsPlain rdr.new) }
     ensures row { IfOk result (λ found. rows_left rdr.old ≡ (if found then fields_of row.new ∷ rows_left rdr.new else [])) }
 {
-    let Ok(found) = rdr.read_byte_record(row) else {
-        return Err(AllocError);
-    };
-    Ok(found)
+    match rdr.read_byte_record(row) {
+        Ok(found) => Ok(found),
+        Err(error) => Err(want_of_memory(error)),
+    }
+}
+
+// With lengths free and no text asked for, only memory can fail a read of a slice. That the slice itself fails isn't
+// ruled out by the contract of `Read`, and counts as want of memory.
+fn want_of_memory(_error: Error) -> AllocError
+    requires { stops_reader (error_kind _error) ≡ true }
+{
+    AllocError
 }
 
 /// Reads past the next `count` records, and answers whether there were that many.

@@ -1,5 +1,5 @@
 -- Numbers read digit by digit, and cut where no type lets them in.
-use Rattle.std.proofs.Common.{◌≡◌, ℕ, zero, suc, ◌+◌, ◌-◌, ◌*◌, ◌^◌, ◌<◌, ◌≤◌, Bool, true, false, List, [], ◌∷◌, ◌++◌, length, get_or, take, min, refl, ap, ◌∙◌, sym, arith, Option, Some, None, ℤ, pos, negsuc, neg_ℤ, ◌&&◌, inl, inr, int_le, ◌<ℤ◌}
+use Rattle.std.proofs.Common.{◌≡◌, ℕ, ◌+◌, ◌-◌, ◌*◌, ◌^◌, ◌<◌, ◌≤◌, true, false, List, [], ◌∷◌, ◌++◌, length, get_or, take, min, refl, ap, ◌∙◌, sym, arith, Option, Some, None, ℤ, pos, negsuc, neg_ℤ, ◌&&◌, inl, inr, int_le, ◌<ℤ◌}
 use Rattle.std.specs.List.{list_all}
 use Rattle.std.specs.Char.{is_ascii_digit, digit_value}
 use Rattle.std.specs.Str.Parse.{digits_value, digits_value_after}
@@ -11,8 +11,7 @@ use Rattle.std.proofs.lemmas.Int.{ints}
 use Rattle.std.proofs.Math.Bool.{and-false}
 use Rattle.fb_types.specs.declared.types.ColType.{ColType}
 use Rattle.fb_types.specs.declared.types.ColType.TheVariants.{Byte, UByte, Short, UShort, Int, UInt, Long, ULong, Category, Text}
-use Rattle.fb_types.specs.declared.fields.FieldAnswer.{FieldAnswer}
-use Rattle.fb_types.specs.declared.fields.FieldAnswer.TheVariants.{Null, Value, NotWhole, OutOfRange}
+use Rattle.fb_types.specs.declared.fields.FieldAnswer.TheVariants.{OutOfRange}
 use Rattle.fb_types.specs.Types.{ends_of}
 use Rattle.fb_types.specs.Field.{natural_of, whole_of, capped, number_answer, text_answer}
 

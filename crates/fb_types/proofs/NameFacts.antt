@@ -1,11 +1,11 @@
 -- What a column name is made of.
-use Rattle.std.proofs.Common.{◌≡◌, ℕ, ◌+◌, ◌<◌, ◌≤◌, Bool, true, false, ◌&&◌, not, cond, nat_le, List, [], ◌∷◌, ◌++◌, length, refl, ap, ◌∙◌, sym, arith, Option, Some, None}
-use Rattle.std.specs.List.{list_all, prefix_len, position_or_len}
+use Rattle.std.proofs.Common.{◌≡◌, ℕ, ◌≤◌, Bool, true, false, ◌&&◌, not, cond, nat_le, List, [], ◌∷◌, ◌++◌, length, refl, arith, Some, None}
+use Rattle.std.specs.List.{list_all, position_or_len}
 use Rattle.std.specs.Char.{to_ascii_lowercase}
 use Rattle.std.specs.Str.{str_to_ascii_lowercase}
 use Rattle.std.proofs.lemmas.Bool.{leb-true}
 use Rattle.std.proofs.lemmas.Bool.Decides.{nat_tests}
-use Rattle.fb_types.specs.Names.{begins_name, continues_name, has_name_bytes, is_keyword, is_column_name, IsColumnName, column_name}
+use Rattle.fb_types.specs.Names.{begins_name, continues_name, has_name_bytes, is_column_name, IsColumnName, column_name}
 use Rattle.fb_types.specs.SchemaText.{is_colon}
 
 both_left : (a b : Bool) → (a && b) ≡ true → a ≡ true

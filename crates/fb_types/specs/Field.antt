@@ -37,7 +37,7 @@ abbrev pub whole_of : List ℕ → Option ℤ
 whole_of [] = None
 whole_of (b ∷ bs) =
     if b == 45 then option_map (λ n. neg_ℤ (pos n)) (natural_of bs)
-    else (option_map (λ n. pos n) (natural_of (if b == 43 then bs else b ∷ bs)))
+    else option_map (λ n. pos n) (natural_of (if b == 43 then bs else b ∷ bs))
 
 -- a number beyond 2 ^ 64 in size, cut to that: no type's ends let either in
 abbrev pub capped : ℤ → ℤ
@@ -55,6 +55,7 @@ abbrev pub text_answer : List ℕ → Option (ℤ × ℤ) → FieldAnswer
 text_answer [] ends = Null
 text_answer (b ∷ bs) ends = number_answer (whole_of (b ∷ bs)) ends
 
--- what a field says at a whole type: null where it is blank, no whole number, a number beyond the ends, or a value
+-- what a field says at a whole type: null where it is blank,
+-- that it is no whole number, that the number is beyond the ends, or the number
 abbrev pub field_answer : List ℕ → ColType → FieldAnswer
 field_answer field ty = text_answer (trimmed field) (ends_of ty)

@@ -28,7 +28,6 @@ pub record SchemaFault : Type 0 where
   pub column : ℕ
   pub kind : SchemaKind
 
--- the schema that a text spells, or its fault; as yet the texts are those of one `int` column, without blanks
 abbrev pub first_is_no_type : Result (List Column) SchemaFault
 first_is_no_type = Err (record { column = 1; kind = BadType })
 
@@ -39,9 +38,11 @@ one_int_column (Some name) = Ok (record { name = name; ty = Int } ∷ [])
 abbrev pub is_colon : ℕ → Bool
 is_colon b = b == 58
 
+-- the schema that a text spells, or its fault; as yet the texts are those of one `int` column, without blanks
 abbrev pub read_schema : List ℕ → Result (List Column) SchemaFault
 read_schema text =
-    if bytes_eq (after_first is_colon text) (type_name Int) then one_int_column (column_name (before_first is_colon text)) else first_is_no_type
+    if bytes_eq (after_first is_colon text) (type_name Int) then one_int_column (column_name (before_first is_colon text))
+    else first_is_no_type
 
 -- a schema that some text spells as yet
 abbrev pub IsReadable : List Column → Type 0

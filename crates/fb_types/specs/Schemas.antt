@@ -1,5 +1,5 @@
 -- Schemas: columns with distinct names.
-use Rattle.std.specs.Prelude.{◌≡◌, ◌≢◌, ℕ, ◌≤◌, Option, List, length}
+use Rattle.std.specs.Prelude.{◌≢◌, ℕ, ◌≤◌, Option, List, length}
 use Rattle.std.specs.List.{All, AllPairs, position}
 use Rattle.std.specs.Str.{bytes_eq}
 use Rattle.fb_types.specs.declared.schemas.Column.{Column}

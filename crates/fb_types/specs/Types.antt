@@ -1,4 +1,4 @@
--- The ten types of a column: how wide a value is in a file, the least and the greatest value, and the type's word.
+-- The ten types of a column: how wide a value is in a file, its least and greatest value, its word.
 use Rattle.std.specs.Prelude.{ℕ, ◌-◌, ◌^◌, ℤ, pos, neg_ℤ, Option, Some, None, List}
 use lib.Chars.{codes}
 use Rattle.fb_types.specs.declared.types.ColType.{ColType}

@@ -1,4 +1,5 @@
-//! What a table's columns are: their types, names and schemas, the text that spells a schema, and cells kept by rows.
+//! What a table's columns are: their types, names and schemas, the text that spells a schema,
+//! what a field says, and records of cells under a schema.
 #![tactic(auto)]
 
 mod cells;

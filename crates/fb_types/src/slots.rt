@@ -7,7 +7,7 @@ use std::alloc::{AllocError, Global};
 use std::marker::Model;
 
 /// A cell as it is kept: the bytes of a word stand in the text of its list.
-#[derive(Clone, Copy)]
+#[derive(Clone, Copy, Debug)]
 pub(crate) enum Slot {
     Empty,
     Natural(u64),
@@ -16,7 +16,7 @@ pub(crate) enum Slot {
 }
 
 /// A list of cells in two flat buffers.
-#[derive(Drop)]
+#[derive(Debug, Drop)]
 pub(crate) struct CellStore {
     slots: Vec<Slot>,
     text: Vec<u8>,

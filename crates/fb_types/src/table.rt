@@ -10,7 +10,7 @@ use std::alloc::{AllocError, Global};
 use std::marker::Model;
 
 /// Records under a schema, each of cells that fit it, seen as a `Table`.
-#[derive(Drop)]
+#[derive(Debug, Drop)]
 pub struct Columns {
     schema: Schema,
     rows: u64,
@@ -69,7 +69,8 @@ impl Columns {
     pub fn whole(&self, row: u64, col: usize) -> Option<i128>
         requires row { row < length self.now.records }
         requires column { IsWholeColumn self.now.schema col }
-        ensures { MatchOption result (cell_at self.now row col ≡ Cell.Null) (λ number. cell_at self.now row col ≡ Cell.Whole number) }
+        ensures { MatchOption result (cell_at self.now row col ≡ Cell.Null)
+            (λ number. cell_at self.now row col ≡ Cell.Whole number) }
     {
         let width = self.schema.columns().len();
         self.cells.whole(row as usize * width + col)
@@ -79,7 +80,8 @@ impl Columns {
     pub fn word(&self, row: u64, col: usize) -> Option<&[u8]>
         requires row { row < length self.now.records }
         requires column { IsWordColumn self.now.schema col }
-        ensures { MatchOption result (cell_at self.now row col ≡ Cell.Null) (λ word. cell_at self.now row col ≡ Cell.Word word.now) }
+        ensures { MatchOption result (cell_at self.now row col ≡ Cell.Null)
+            (λ word. cell_at self.now row col ≡ Cell.Word word.now) }
     {
         let width = self.schema.columns().len();
         self.cells.word(row as usize * width + col)

@@ -1,6 +1,5 @@
-use Rattle.std.proofs.Common.{◌≡◌, ◌<◌, ◌≤◌, length, arith, get_or, take, refl}
+use Rattle.std.proofs.Common.{◌<◌, ◌≤◌, length, arith, get_or, take, refl}
 use Rattle.std.proofs.lemmas.List.{take_more, take_all}
-use Rattle.fb_types.specs.Cells.{RecordFits, CellFits}
 use Rattle.fb_types.proofs.CellFacts.{length-RecordFits, RecordFits-push, CellFits-at}
 use Rattle.fb_types.proofs.cells.record_fits.Goals as goal
 

@@ -1,4 +1,4 @@
-use Rattle.std.proofs.Common.{◌≡◌, ◌≤◌, ◌∙◌, ap, refl, length, take, map, arith}
+use Rattle.std.proofs.Common.{◌≡◌, ◌≤◌, refl, length}
 use Rattle.std.proofs.lemmas.List.{take_all}
 use Rattle.fb_types.specs.SchemaText.{schema_text}
 use Rattle.fb_types.proofs.TextFacts.{join_step, reads_back}

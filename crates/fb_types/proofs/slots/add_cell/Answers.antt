@@ -1,7 +1,7 @@
 use Rattle.std.proofs.lemmas.Int.{to_z-of_z}
 use mir.Val.{SFits}
 use mir.Syntax.{w128}
-use Rattle.fb_types.specs.Slots.{IsStorable, IsKept}
+use Rattle.fb_types.specs.Slots.{IsStorable}
 use Rattle.fb_types.specs.declared.cells.Cell.TheVariants.{Whole}
 use Rattle.fb_types.proofs.SlotFacts.{SFits-storable}
 use Rattle.fb_types.proofs.slots.add_cell.Goals as goal

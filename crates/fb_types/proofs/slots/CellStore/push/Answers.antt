@@ -1,4 +1,4 @@
-use Rattle.std.proofs.Common.{◌≡◌, ◌∙◌, ◌∷◌, [], ◌++◌, refl, rules, arith}
+use Rattle.std.proofs.Common.{◌≡◌, ◌∙◌, ◌∷◌, [], refl, rules, arith}
 use Rattle.fb_types.specs.Slots.{cells_in, text_of, AllInText}
 use Rattle.fb_types.proofs.SlotFacts.{length-cells_in, AllInText-append, AllInText-grown, cells_in-append, cells_in-grown}
 use Rattle.fb_types.specs.contracts.slots.CellStore.{the_view}

@@ -1,4 +1,4 @@
-use Rattle.std.proofs.Common.{rules, ap, refl, arith, Some, take, drop, ◌≡◌, ◌∙◌, ◌≤◌, ◌+◌, length}
+use Rattle.std.proofs.Common.{rules, ap, refl, arith, Some, take, drop, ◌≤◌, ◌+◌, length}
 use Rattle.fb_types.proofs.SlotFacts.{cell_of_slot, slot_in_text, slot_place}
 use Rattle.fb_types.proofs.slots.CellStore.word.Goals as goal
 

@@ -1,6 +1,5 @@
-use Rattle.std.proofs.Common.{◌≡◌, ◌+◌, ◌<◌, ◌^◌, ◌++◌, length, ◌∙◌, ap, arith}
+use Rattle.std.proofs.Common.{◌≡◌, ◌+◌, ◌++◌, ◌∙◌, ap, arith}
 use Rattle.fb_types.specs.Cells.{RecordFits}
-use Rattle.fb_types.specs.Rows.{IsLaidOut}
 use Rattle.fb_types.proofs.CellFacts.{AllStorable-fits}
 use Rattle.fb_types.proofs.RowFacts.{pushed, pushed_table, rows_few}
 use Rattle.fb_types.proofs.table.Columns.push.Goals as goal

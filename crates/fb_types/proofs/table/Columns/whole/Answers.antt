@@ -1,6 +1,4 @@
-use Rattle.std.proofs.Common.{◌≡◌, ◌+◌, ◌*◌, ◌<◌, length, arith, get_or, subst, ap, sym, []}
-use Rattle.fb_types.specs.declared.cells.Cell.{Cell}
-use Rattle.fb_types.specs.declared.cells.Cell.TheVariants.{Null, Whole}
+use Rattle.std.proofs.Common.{◌≡◌, arith, get_or, ap, []}
 use Rattle.fb_types.specs.Slots.{whole_in}
 use Rattle.fb_types.specs.Table.{cell_at}
 use Rattle.fb_types.proofs.CellFacts.{whole_of_record, whole_column_within}

@@ -1,7 +1,5 @@
-use Rattle.std.proofs.Common.{◌≡◌, ◌+◌, ◌*◌, ◌<◌, length, arith, get_or, subst, ap, sym, []}
+use Rattle.std.proofs.Common.{◌≡◌, arith, get_or, ap, []}
 use Rattle.std.specs.Option.{option_copied}
-use Rattle.fb_types.specs.declared.cells.Cell.{Cell}
-use Rattle.fb_types.specs.declared.cells.Cell.TheVariants.{Null, Word}
 use Rattle.fb_types.specs.Slots.{word_in}
 use Rattle.fb_types.specs.Table.{cell_at}
 use Rattle.fb_types.proofs.CellFacts.{copied_word, word_of_record, word_column_within}

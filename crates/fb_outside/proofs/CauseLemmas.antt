@@ -1,5 +1,5 @@
 -- Counts of faults over several calls.
-use Rattle.std.proofs.Common.{◌≡◌, ◌≤◌, ℕ, arith}
+use Rattle.std.proofs.Common.{◌≤◌, ℕ, arith}
 use Rattle.fb_outside.specs.Causes.{Rose, HasCause}
 
 pub Rose-later : (a b c : ℕ) → Rose a b → b ≤ c → Rose a c

@@ -1,8 +1,7 @@
 -- What calls on a store do to its files together.
-use Rattle.std.proofs.Common.{◌≡◌, ◌≢◌, ◌⊎◌, inl, inr, ℕ, Bool, true, false, cond, List, Option, Some, None, option_map, option_and_then, is_some, bytes_eq, refl, sym, ap, ◌∙◌, nat_cmp}
-use Rattle.std.specs.Cmp.Lexicographic.{slice_cmp, texts_ties}
-use Rattle.std.specs.Ordering.{eq_by_cmp}
-use Rattle.std.specs.FinMap.{get, insert, get-insert}
+use Rattle.std.proofs.Common.{◌≡◌, ◌≢◌, inl, inr, ℕ, Bool, true, false, cond, List, Option, Some, None, option_map, is_some, bytes_eq, refl, sym, ap, ◌∙◌}
+use Rattle.std.specs.Cmp.Lexicographic.{texts_ties}
+use Rattle.std.specs.FinMap.{insert, get-insert}
 use Rattle.std.proofs.lemmas.Cmp.{nat_list_cmp_total}
 use Rattle.std.proofs.lemmas.Slice.Eq.{bytes_eq-Decides}
 use Rattle.fb_outside.specs.Files.{Files, file_at, told_at, SameFiles, Puts, PutLeaves, ChangesAmong, ChangesOnly}

@@ -4,3 +4,5 @@ pub mod StreamLemmas
 pub mod CauseLemmas
 pub mod FileLemmas
 pub mod ReadLemmas
+pub mod JoinLemmas
+pub mod KnownLemmas

@@ -1,8 +1,7 @@
 -- The list of entries of a store in memory, and the map and the reads that it stands for.
-use Rattle.std.proofs.Common.{◌≡◌, ◌≢◌, ◌<◌, ◌≤◌, ◌+◌, ◌||◌, not, nat_lt, IsSome, is_some, take, drop, take-append-drop, drop-drop, length-drop, take_at, ℕ, zero, suc, Bool, true, false, cond, List, [], ◌∷◌, ◌++◌, length, get_or, set, map, eqb, Option, Some, None, option_map, unwrap_or, slice_get, bytes_eq, refl, sym, ap, subst, ◌∙◌, arith, nat_cmp, eqb-true, add-one, is_eq}
-use Rattle.std.specs.Ordering.{eq_by_cmp}
+use Rattle.std.proofs.Common.{◌≡◌, ◌<◌, ◌≤◌, ◌+◌, ◌||◌, not, nat_lt, IsSome, is_some, take, drop, take-append-drop, drop-drop, length-drop, take_at, ℕ, zero, suc, Bool, true, false, cond, List, [], ◌∷◌, ◌++◌, length, get_or, set, map, Some, None, option_map, unwrap_or, bytes_eq, refl, sym, ap, subst, ◌∙◌, arith, nat_cmp, add-one}
 use Rattle.std.specs.Cmp.Lexicographic.{slice_cmp, texts_ties}
-use Rattle.std.specs.FinMap.{FinMap, get, insert, from_entries, find, get-from_entries, get-insert, same_map, nat_cmp-IsAntisymmetric, slice_cmp-IsAntisymmetric}
+use Rattle.std.specs.FinMap.{insert, from_entries, find, get-from_entries, get-insert, same_map, nat_cmp-IsAntisymmetric, slice_cmp-IsAntisymmetric}
 use Rattle.std.specs.List.{AllByRecursion}
 use Rattle.std.proofs.lemmas.List.{map-append, length-take-le}
 use Rattle.std.proofs.lemmas.Cmp.{nat_list_cmp_total}

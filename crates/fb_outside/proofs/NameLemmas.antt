@@ -1,10 +1,9 @@
 -- The tests decide what a piece and a name are; and names put together.
-use Rattle.std.proofs.Common.{◌≡◌, ◌≢◌, ◌<◌, ◌≤◌, ◌+◌, ◌↔◌, ◌&&◌, ◌||◌, not, ℕ, Bool, true, false, cond, List, [], ◌∷◌, ◌++◌, length, eqb, IsTrue, All, nat_lt, nat_le, bytes_eq, refl, sym, ap, subst, ◌∙◌, arith, rules, length-append, append_assoc, if◌then◌else◌, ltb-true, leb-true, lt-ltb, le-leb, eqb-true}
+use Rattle.std.proofs.Common.{◌≡◌, ◌≢◌, ◌<◌, ◌≤◌, ◌&&◌, ◌||◌, not, ℕ, Bool, true, false, cond, List, [], ◌∷◌, ◌++◌, length, eqb, IsTrue, All, nat_lt, nat_le, bytes_eq, refl, sym, ap, subst, ◌∙◌, arith, if◌then◌else◌, ltb-true, leb-true, lt-ltb, le-leb, eqb-true}
 use Rattle.std.specs.List.{AllByRecursion, join_with_byte, list_all, slice_split}
 use Rattle.std.proofs.lemmas.List.Splits.{join_with_byte-slice_split, slice_split_none, slice_split_at, length-slice_split}
 use Rattle.std.proofs.lemmas.List.Elements.{All-from_recursion}
 use Rattle.std.proofs.lemmas.Slice.Eq.{bytes_eq-Decides}
-use Rattle.std.proofs.lemmas.Grind.{common_steps}
 use Rattle.fb_outside.specs.Names.{IsPiece, IsName, is_piece_byte, spelled}
 use Rattle.fb_outside.specs.NameTests.{is_piece, are_dots, are_joined, are_pieces}
 
@@ -72,14 +71,14 @@ test-from_pieces most (p ∷ ps) h =
     and_true (is_piece most p) (list_all (is_piece most) ps) (test-from_IsPiece most p h.0) (test-from_pieces most ps h.1)
 
 -- no byte of a piece is a slash
-no_slash_byte : (b : ℕ) → is_piece_byte b ≡ true → eqb b 47 ≡ false
+pub no_slash_byte : (b : ℕ) → is_piece_byte b ≡ true → eqb b 47 ≡ false
 no_slash_byte b h =
     elim (eqb b 47) as (λ t. eqb b 47 ≡ t → t ≡ false) [
       | true ↦ λ e. let is : b ≡ 47 = eqb-true b 47 e in let no : false ≡ true = subst (λ x. is_piece_byte x ≡ true) is h in absurd (cc)
       | false ↦ λ e. refl
     ] refl
 
-no_slash-bytes : (p : List ℕ) → AllByRecursion (λ b. IsTrue (is_piece_byte b)) p → AllByRecursion (λ b. eqb b 47 ≡ false) p
+pub no_slash-bytes : (p : List ℕ) → AllByRecursion (λ b. IsTrue (is_piece_byte b)) p → AllByRecursion (λ b. eqb b 47 ≡ false) p
 no_slash-bytes [] h = tt
 no_slash-bytes (b ∷ bs) h = (no_slash_byte b h.0, no_slash-bytes bs h.1)
 

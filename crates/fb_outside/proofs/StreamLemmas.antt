@@ -1,5 +1,5 @@
 -- What calls on a source or a sink do together.
-use Rattle.std.proofs.Common.{◌≡◌, ◌+◌, ℕ, zero, suc, List, [], ◌∷◌, ◌++◌, take, length, Option, Some, None, option_map, refl, sym, ap, ◌∙◌, append_assoc, append-nil, arith, take-append-drop, is_some}
+use Rattle.std.proofs.Common.{◌≡◌, ◌+◌, ℕ, zero, suc, List, [], ◌∷◌, ◌++◌, take, length, Option, Some, None, option_map, refl, sym, ap, ◌∙◌, append_assoc, append-nil, is_some}
 use Rattle.std.proofs.Math.Seq.{take-append-add, take-length}
 use Rattle.fb_outside.specs.Streams.{Takes, Grows, GrowsInPart}
 

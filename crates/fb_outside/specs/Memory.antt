@@ -1,5 +1,5 @@
 -- What the objects in memory are, and what a call does to them.
-use Rattle.std.specs.Prelude.{◌≡◌, ◌==◌, ◌+◌, ◌-◌, ◌^◌, ◌||◌, not, nat_lt, ℕ, Bool, true, false, List, [], ◌∷◌, ◌++◌, map, min, take, drop, length, Option, Some, None, Result, Ok, Err, is_some, option_map, unwrap_or, slice_get, if◌then◌else◌, bytes_eq}
+use Rattle.std.specs.Prelude.{◌==◌, ◌+◌, ◌||◌, not, nat_lt, ℕ, Bool, true, false, List, [], ◌∷◌, ◌++◌, map, length, Option, Some, None, Result, Ok, Err, is_some, option_map, unwrap_or, slice_get, if◌then◌else◌, bytes_eq}
 use Rattle.std.specs.FinMap.{from_entries}
 use Rattle.fb_outside.specs.Causes.{one_more}
 use Rattle.fb_outside.specs.Files.{Files}

@@ -1,5 +1,6 @@
 -- What a source has left and what a sink has taken. A meaning is None where the object doesn't tell it.
 use Rattle.std.specs.Prelude.{◌≡◌, ℕ, List, [], ◌++◌, take, Option, IfSome, option_map}
+use Rattle.std.specs.Io.KnownBytes.{Appends}
 
 -- the bytes were taken from the front of what was left
 abbrev pub Takes : Option (List ℕ) → Option (List ℕ) → List ℕ → Type 0
@@ -17,3 +18,8 @@ Grows old new bytes = new ≡ option_map (λ all. all ++ bytes) old
 pub record GrowsInPart (old new : Option (List ℕ)) (bytes : List ℕ) : Type 0 where
   pub count : ℕ
   pub front : Grows old new (take count bytes)
+
+-- the same of a writer of the toolchain: some front of the bytes stands behind those that it held, where it tells them
+pub record AppendsInPart (old new : Option (List ℕ)) (bytes : List ℕ) : Type 0 where
+  pub count : ℕ
+  pub front : Appends old new (take count bytes)

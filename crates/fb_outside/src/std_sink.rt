@@ -1,4 +1,7 @@
-ghost use Rattle.std.specs.Prelude.{◌≡◌, None};
+ghost use Rattle.std.specs.Prelude.{◌≡◌, None, OnOk, OnErr, IsErrOf};
+ghost use Rattle.std.specs.Io.KnownBytes.{Appends};
+ghost use Rattle.fb_outside.specs.Causes.{HasCause};
+ghost use Rattle.fb_outside.specs.Streams.{Grows, GrowsInPart, AppendsInPart};
 
 use crate::faults::Faults;
 use crate::outside::{Sink, Trouble};
@@ -17,15 +20,18 @@ pub struct StdSink<W: Write> {
 
 impl<W: Write> Model for StdSink<W> {
     ghost use Rattle.std.specs.Prelude.{ℕ};
+    ghost use Rattle.std.specs.Coded.{coded×, coded_ℕ};
 
-    ghost Value = { ℕ };
+    ghost Value = { W × ℕ };
 
-    ghost view = { λ s. s.faults };
+    ghost coded = { coded× W.code coded_ℕ };
+
+    ghost view = { λ s. (s.writer, s.faults) };
 }
 
 impl<W: Write> StdSink<W> {
     pub fn make(writer: W) -> StdSink<W>
-        ensures { result ≡ 0 }
+        ensures { result ≡ (writer, 0) }
     {
         StdSink {
             writer,
@@ -35,11 +41,20 @@ impl<W: Write> StdSink<W> {
 }
 
 impl<W: Write> Sink for StdSink<W> {
-    ghost faults = { λ s. s };
+    ghost faults = { λ s. s.1 };
 
     ghost written = { λ _. None };
 
-    fn put(&mut self, piece: &[u8]) -> Result<(), Trouble> {
+    fn put(&mut self, piece: &[u8]) -> Result<(), Trouble>
+        ensures cause { HasCause self.old.1 self.new.1 (IsErrOf result Trouble.Failed) }
+        ensures ok { OnOk result (Grows None None piece.now) }
+        ensures failed { IsErrOf result Trouble.Failed → GrowsInPart None None piece.now }
+
+        // It takes no memory. Where the writer tells its bytes, the piece is behind them, or a front of it.
+        ensures memory { IsErrOf result Trouble.OutOfMemory → ⊥ }
+        ensures bytes { OnOk result (Appends (W.contents self.old.0) (W.contents self.new.0) piece.now) }
+        ensures part { OnErr result (AppendsInPart (W.contents self.old.0) (W.contents self.new.0) piece.now) }
+    {
         match write_all(&mut self.writer, piece) {
             Ok(()) => Ok(()),
             Err(_) => {

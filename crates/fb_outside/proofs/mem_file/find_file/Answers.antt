@@ -1,4 +1,4 @@
-use Rattle.std.proofs.Common.{map, arith, sym, ◌∙◌, rules}
+use Rattle.std.proofs.Common.{map, arith}
 use Rattle.std.proofs.lemmas.Grind.{common_steps}
 use Rattle.fb_outside.specs.MemFiles.{entry_of}
 use Rattle.fb_outside.proofs.MemoryLemmas.{file_at-from_entries}

@@ -1,8 +1,5 @@
-use Rattle.std.proofs.Common.{◌≡◌, List, ℕ, Result, Ok, Err, OnOk, Some, map, length, sym, ap, ◌∙◌, inr}
-use Rattle.std.specs.FinMap.{from_entries}
+use Rattle.std.proofs.Common.{Result, Ok, Err, OnOk, map, length, inr}
 use Rattle.std.proofs.lemmas.List.{length-map}
-use Rattle.fb_outside.specs.Files.{Puts}
-use Rattle.fb_outside.specs.Memory.{put_entry, files_of}
 use Rattle.fb_outside.specs.MemFiles.{entry_of}
 use Rattle.fb_outside.proofs.MemoryLemmas.{AreWithin, puts_entry, keeps_reads, stays_within}
 use Rattle.fb_outside.proofs.mem_store.MemStoreStore.put.Goals as goal

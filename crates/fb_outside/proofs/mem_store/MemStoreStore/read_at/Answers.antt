@@ -1,4 +1,4 @@
-use Rattle.std.proofs.Common.{◌≡◌, Some, is_some, map, length, true, sym, ap, ◌∙◌, refl, arith}
+use Rattle.std.proofs.Common.{◌≡◌, Some, is_some, map, length, true, sym, ap}
 use Rattle.std.specs.FinMap.{from_entries}
 use Rattle.fb_outside.specs.Files.{file_at}
 use Rattle.fb_outside.specs.Memory.{place_of}

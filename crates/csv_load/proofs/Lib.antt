@@ -1,0 +1,6 @@
+pub mod Examples
+pub mod FieldFacts
+pub mod LawFacts
+pub mod LoadFacts
+pub mod RecordsOfText
+pub mod TakenBytes

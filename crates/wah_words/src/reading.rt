@@ -1,0 +1,108 @@
+//! Reading a vector from bytes.
+ghost use Rattle.std.specs.Prelude.{◌≡◌, ◌+◌, ◌*◌, ◌/◌, ◌≤◌, length, drop};
+ghost use Rattle.wah_words.specs.Bytes.{Reads, number_at, active_size, body_at, vector_at};
+
+use crate::fault::WordsFault;
+use crate::wah::{MAX_LEN, Wah};
+use crate::words::{are_joined_words, groups_of, is_improper_word};
+use std::alloc::Global;
+
+/// The vector at the front of the bytes, and how many bytes it takes.
+pub(crate) fn read_vector(alloc: Global, bytes: &[u8]) -> Result<(Wah, usize), WordsFault>
+    ensures { Reads result (vector_at bytes.now) }
+{
+    if bytes.len() < 8 {
+        return Err(WordsFault::Short);
+    }
+    let (len, after) = number_of(bytes);
+    let (count, body) = number_of(after);
+    if len > MAX_LEN {
+        return Err(WordsFault::TooLong);
+    }
+    if count > len / 31 {
+        return Err(WordsFault::Groups);
+    }
+    if bytes.len() < 8 + 4 * count as usize + size_of_active(len) {
+        return Err(WordsFault::Short);
+    }
+    read_body(alloc, len, count, body)
+}
+
+#[inline(always)]
+fn number_of(bytes: &[u8]) -> (u32, &[u8])
+    requires { 4 ≤ length bytes.now }
+    ensures number { result.0 ≡ number_at bytes.now }
+    ensures rest { result.1.now ≡ drop 4 bytes.now }
+{
+    let (front, rest) = bytes.split_at(4);
+    (
+        u32::from_le_bytes([front[0], front[1], front[2], front[3]]),
+        rest,
+    )
+}
+
+#[inline(always)]
+fn size_of_active(len: u32) -> usize
+    ensures { result ≡ active_size len }
+{
+    if len % 31 == 0 { 0 } else { 4 }
+}
+
+fn read_body(alloc: Global, len: u32, count: u32, body: &[u8]) -> Result<(Wah, usize), WordsFault>
+    requires limit { len ≤ 4194304 }
+    requires few { count ≤ len / 31 }
+    requires enough { 4 * count + active_size len ≤ length body.now }
+    ensures { Reads result (body_at len count body.now) }
+{
+    let words = read_words(alloc, count, body)?;
+    let active = if len % 31 == 0 {
+        0
+    } else {
+        number_of(words.rest).0
+    };
+    if active >= 1 << (len % 31) {
+        return Err(WordsFault::NotCanonical(count));
+    }
+    if words.groups != u64::from(len / 31) {
+        return Err(WordsFault::Groups);
+    }
+    let Words { regular, .. } = words;
+    let vector = Wah {
+        len,
+        regular,
+        active,
+    };
+    Ok((vector, 8 + 4 * count as usize + size_of_active(len)))
+}
+
+/// The regular words of a vector, how many groups they stand for, and the bytes after them.
+#[derive(Drop)]
+struct Words<'a> {
+    regular: Vec<u32>,
+    groups: u64,
+    rest: &'a [u8],
+}
+
+fn read_words(alloc: Global, count: u32, bytes: &[u8]) -> Result<Words<'_>, WordsFault> {
+    let mut regular = Vec::with_capacity(alloc, count as usize).map_err(
+        |_| WordsFault::OutOfMemory,
+    )?;
+    let mut groups = 0;
+    let mut last = 0;
+    let mut rest = bytes;
+    for place in 0..count {
+        let (word, after) = number_of(rest);
+        if is_improper_word(word) || are_joined_words(last, word) {
+            return Err(WordsFault::NotCanonical(place));
+        }
+        regular.push_reserved(word);
+        groups += u64::from(groups_of(word));
+        last = word;
+        rest = after;
+    }
+    Ok(Words {
+        regular,
+        groups,
+        rest,
+    })
+}

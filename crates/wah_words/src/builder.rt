@@ -127,13 +127,14 @@ impl Builder {
         ensures words { words_of self.new.values ≤ words_of self.old.values + 1 }
     {
         let group = 2 * self.active + bit as u32;
-        if self.len % 31 == 30 {
+        let whole = self.len % 31 == 30;
+        self.len += 1;
+        if whole {
             append_group(&mut self.regular, group);
             self.active = 0;
-        } else {
-            self.active = group;
+            return;
         }
-        self.len += 1;
+        self.active = group;
     }
 
     /// The vector of the values that were pushed.

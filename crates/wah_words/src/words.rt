@@ -1,5 +1,5 @@
 //! Regular words as numbers.
-ghost use Rattle.std.specs.Prelude.{◌≡◌, ℕ, ◌+◌, ◌*◌, ◌<◌, ◌≤◌, ◌++◌, IsTrue, ◌↔◌, replicate, vec_len};
+ghost use Rattle.std.specs.Prelude.{◌≡◌, ◌+◌, ◌*◌, ◌<◌, ◌≤◌, ◌++◌, replicate, vec_len};
 ghost use Rattle.std.specs.Vec.{vec_capacity};
 ghost use Rattle.wah_words.specs.Places.{places};
 ghost use Rattle.wah_words.specs.Spelling.{literal, fill, word_groups, IsCanonical, groups_told};
@@ -28,7 +28,8 @@ pub(crate) fn fill_word(bit: bool, groups: u32) -> u32
 /// Whether the word is a fill of this value.
 #[inline(always)]
 pub(crate) fn is_fill_of(word: u32, bit: bool) -> bool
-    ensures { IsTrue result ↔ ((n : ℕ) × (decoded word ≡ fill bit n)) }
+    ensures fill { result ≡ are_joined (decoded word) (fill bit 1) }
+    ensures range { word < 4294967296 }
 {
     let kind = word / GROUPS;
     if bit { kind == 3 } else { kind == 2 }

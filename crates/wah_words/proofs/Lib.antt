@@ -1,0 +1,4 @@
+pub mod PlacesLemmas
+pub mod SpellingLemmas
+pub mod WordsLemmas
+pub mod StoredLemmas

@@ -1,0 +1,9 @@
+use Rattle.std.proofs.Common.{◌≡◌, ◌<◌, false, true, arith, ap, sym, ◌∙◌}
+use Rattle.wah_words.proofs.StoredLemmas.{stored_none, values_none}
+use Rattle.wah_words.proofs.builder.Builder.with_room.Goals as goal
+
+pub invariant_of-result : goal.invariant_of-result
+invariant_of-result c = ?
+
+pub returns-clause-empty : goal.returns-clause-empty
+returns-clause-empty c = ?

@@ -2,3 +2,4 @@ pub mod PlacesLemmas
 pub mod SpellingLemmas
 pub mod WordsLemmas
 pub mod StoredLemmas
+pub mod CursorLemmas

@@ -4,6 +4,7 @@ use Rattle.std.proofs.lemmas.List.{length-replicate}
 use Rattle.std.proofs.lemmas.Nat.{pow_pos, mod-pow-add, mod_below, div-mul-add, mod_low}
 use Rattle.std.proofs.Math.Nat.{pow-suc, mul-add-div_right, mul_assoc, mul_comm, div-add-mod', mod-eq_of_lt}
 use Rattle.std.proofs.lemmas.Grind.{pow_more}
+use Rattle.std.specs.Int.{from_bool}
 use Rattle.wah_words.specs.Places.{places, number}
 
 pub length-places : (c n : ℕ) → length (places c n) ≡ c
@@ -96,17 +97,13 @@ places-zeros c = places-of_number c 0 (replicate c false) (length-replicate c fa
 pub places-ones : (c n : ℕ) → n + 1 ≡ 2 ^ c → places c n ≡ replicate c true
 places-ones c n e = places-of_number c n (replicate c true) (length-replicate c true) (omega (arith, number-replicate_true c, e))
 
-abbrev pub value_of : Bool → ℕ
-value_of true = 1
-value_of false = 0
-
-pub number-push : (v : List Bool) (b : Bool) → number (v ++ b ∷ []) ≡ 2 * number v + value_of b
+pub number-push : (v : List Bool) (b : Bool) → number (v ++ b ∷ []) ≡ 2 * number v + from_bool b
 number-push [] true = refl
 number-push [] false = refl
 number-push (true ∷ v) b = rw (length-append v (b ∷ []), pow_more 2 (length v)) (omega (arith, number-push v b))
 number-push (false ∷ v) b = omega (arith, number-push v b)
 
 -- one place more at the low end
-pub places-push : (c n : ℕ) (b : Bool) → n < 2 ^ c → places (c + 1) (2 * n + value_of b) ≡ places c n ++ b ∷ []
+pub places-push : (c n : ℕ) (b : Bool) → n < 2 ^ c → places (c + 1) (2 * n + from_bool b) ≡ places c n ++ b ∷ []
 places-push c n b h =
-    places-of_number (c + 1) (2 * n + value_of b) (places c n ++ b ∷ []) (length-append (places c n) (b ∷ []) ∙ ap (λ k. k + 1) (length-places c n)) (number-push (places c n) b ∙ ap (λ k. 2 * k + value_of b) (number-places_below c n h))
+    places-of_number (c + 1) (2 * n + from_bool b) (places c n ++ b ∷ []) (length-append (places c n) (b ∷ []) ∙ ap (λ k. k + 1) (length-places c n)) (number-push (places c n) b ∙ ap (λ k. 2 * k + from_bool b) (number-places_below c n h))

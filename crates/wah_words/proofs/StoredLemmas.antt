@@ -5,10 +5,11 @@ use Rattle.std.proofs.lemmas.Bool.{cases_eq, ne_eqb}
 use Rattle.std.proofs.lemmas.Nat.{pow_pos}
 use Rattle.std.proofs.Math.Nat.{pow-suc}
 use Rattle.std.proofs.Math.Pow.{pow_mono}
+use Rattle.std.specs.Int.{from_bool}
 use Rattle.wah_words.specs.Places.{places, number}
 use Rattle.wah_words.specs.Spelling.{Word, regular_words, rest_of, words_of, told, groups_told, IsCanonical}
 use Rattle.wah_words.specs.Bytes.{decoded, decoded_all, IsStored, stored, Appends, IsLeft}
-use Rattle.wah_words.proofs.PlacesLemmas.{length-places, places-push, value_of, places-zeros}
+use Rattle.wah_words.proofs.PlacesLemmas.{length-places, places-push, places-zeros}
 use Rattle.wah_words.proofs.SpellingLemmas.{length-told, length_le-groups_told, regular_words_told, rest_of_told, words_of_told, active_words}
 
 few_places : (len active : ℕ) → length (places (len % 31) active) < 31
@@ -83,11 +84,11 @@ words_tail len items active bits count h e some few fits within =
 
 -- ---- a push of one value
 
-twice_fits : (c n : ℕ) (b : Bool) → n < 2 ^ c → 2 * n + value_of b < 2 ^ (c + 1)
+twice_fits : (c n : ℕ) (b : Bool) → n < 2 ^ c → 2 * n + from_bool b < 2 ^ (c + 1)
 twice_fits c n true h = let e : c + 1 ≡ suc c = omega arith in rw (e, pow-suc 2 c) (omega arith)
 twice_fits c n false h = let e : c + 1 ≡ suc c = omega arith in rw (e, pow-suc 2 c) (omega arith)
 
-pub stored_bit : (len : ℕ) (items : List ℕ) (active : ℕ) (b : Bool) → IsStored len items active → (len % 31 ≡ 30 → ⊥) → len + 1 ≤ 4194304 → IsStored (len + 1) items (2 * active + value_of b)
+pub stored_bit : (len : ℕ) (items : List ℕ) (active : ℕ) (b : Bool) → IsStored len items active → (len % 31 ≡ 30 → ⊥) → len + 1 ≤ 4194304 → IsStored (len + 1) items (2 * active + from_bool b)
 stored_bit len items active b h part within =
     let rest : (len + 1) % 31 ≡ len % 31 + 1 = omega arith in
     record {
@@ -97,19 +98,19 @@ stored_bit len items active b h part within =
       within = within
     }
 
-pub values_bit : (len : ℕ) (items : List ℕ) (active : ℕ) (b : Bool) → IsStored len items active → (len % 31 ≡ 30 → ⊥) → stored (len + 1) items (2 * active + value_of b) ≡ stored len items active ++ b ∷ []
+pub values_bit : (len : ℕ) (items : List ℕ) (active : ℕ) (b : Bool) → IsStored len items active → (len % 31 ≡ 30 → ⊥) → stored (len + 1) items (2 * active + from_bool b) ≡ stored len items active ++ b ∷ []
 values_bit len items active b h part =
     let rest : (len + 1) % 31 ≡ len % 31 + 1 = omega arith in
-    ap (λ c. told (decoded_all items) ++ places c (2 * active + value_of b)) rest ∙ ap (λ l. told (decoded_all items) ++ l) (places-push (len % 31) active b h.active_fits) ∙ sym (append_assoc (told (decoded_all items)) (places (len % 31) active) (b ∷ []))
+    ap (λ c. told (decoded_all items) ++ places c (2 * active + from_bool b)) rest ∙ ap (λ l. told (decoded_all items) ++ l) (places-push (len % 31) active b h.active_fits) ∙ sym (append_assoc (told (decoded_all items)) (places (len % 31) active) (b ∷ []))
 
-pub group_fits : (len : ℕ) (items : List ℕ) (active : ℕ) (b : Bool) → IsStored len items active → 2 * active + value_of b < 2147483648
+pub group_fits : (len : ℕ) (items : List ℕ) (active : ℕ) (b : Bool) → IsStored len items active → 2 * active + from_bool b < 2147483648
 group_fits len items active b h =
-    let fits : 2 * active + value_of b < 2 ^ (len % 31 + 1) = twice_fits (len % 31) active b h.active_fits in
+    let fits : 2 * active + from_bool b < 2 ^ (len % 31 + 1) = twice_fits (len % 31) active b h.active_fits in
     let few : len % 31 + 1 ≤ 31 = omega arith in
     let most : 2 ^ (len % 31 + 1) ≤ 2 ^ 31 = pow_mono few in
     omega arith
 
-pub stored_group : (len : ℕ) (old new : List ℕ) (active : ℕ) (b : Bool) → IsStored len old active → len % 31 ≡ 30 → Appends old new (places 31 (2 * active + value_of b)) 1 → len + 1 ≤ 4194304 → IsStored (len + 1) new 0
+pub stored_group : (len : ℕ) (old new : List ℕ) (active : ℕ) (b : Bool) → IsStored len old active → len % 31 ≡ 30 → Appends old new (places 31 (2 * active + from_bool b)) 1 → len + 1 ≤ 4194304 → IsStored (len + 1) new 0
 stored_group len old new active b h e a within =
     let rest : (len + 1) % 31 ≡ 0 = omega arith in
     record {
@@ -119,7 +120,7 @@ stored_group len old new active b h e a within =
       within = within
     }
 
-pub values_group : (len : ℕ) (old new : List ℕ) (active : ℕ) (b : Bool) → IsStored len old active → len % 31 ≡ 30 → Appends old new (places 31 (2 * active + value_of b)) 1 → stored (len + 1) new 0 ≡ stored len old active ++ b ∷ []
+pub values_group : (len : ℕ) (old new : List ℕ) (active : ℕ) (b : Bool) → IsStored len old active → len % 31 ≡ 30 → Appends old new (places 31 (2 * active + from_bool b)) 1 → stored (len + 1) new 0 ≡ stored len old active ++ b ∷ []
 values_group len old new active b h e a =
     let rest : (len + 1) % 31 ≡ 0 = omega arith in
     let fits : active < 2 ^ 30 = rw e at h.active_fits in
@@ -128,11 +129,11 @@ values_group len old new active b h e a =
 active_words_le_one : (r : ℕ) → active_words r ≤ 1
 active_words_le_one r = elim (cases_eq r 0) [ inl e ↦ rw e (omega arith) | inr some ↦ rw (ne_eqb r 0 some) (omega arith) ]
 
-pub words_bit : (len : ℕ) (items : List ℕ) (active : ℕ) (b : Bool) → IsStored len items active → (len % 31 ≡ 30 → ⊥) → len + 1 ≤ 4194304 → words_of (stored (len + 1) items (2 * active + value_of b)) ≤ words_of (stored len items active) + 1
+pub words_bit : (len : ℕ) (items : List ℕ) (active : ℕ) (b : Bool) → IsStored len items active → (len % 31 ≡ 30 → ⊥) → len + 1 ≤ 4194304 → words_of (stored (len + 1) items (2 * active + from_bool b)) ≤ words_of (stored len items active) + 1
 words_bit len items active b h part within =
-    rw (words_of-stored (len + 1) items (2 * active + value_of b) (stored_bit len items active b h part within), words_of-stored len items active h) (omega (arith, active_words_le_one ((len + 1) % 31)))
+    rw (words_of-stored (len + 1) items (2 * active + from_bool b) (stored_bit len items active b h part within), words_of-stored len items active h) (omega (arith, active_words_le_one ((len + 1) % 31)))
 
-pub words_group : (len : ℕ) (old new : List ℕ) (active : ℕ) (b : Bool) → IsStored len old active → len % 31 ≡ 30 → Appends old new (places 31 (2 * active + value_of b)) 1 → len + 1 ≤ 4194304 → words_of (stored (len + 1) new 0) ≤ words_of (stored len old active) + 1
+pub words_group : (len : ℕ) (old new : List ℕ) (active : ℕ) (b : Bool) → IsStored len old active → len % 31 ≡ 30 → Appends old new (places 31 (2 * active + from_bool b)) 1 → len + 1 ≤ 4194304 → words_of (stored (len + 1) new 0) ≤ words_of (stored len old active) + 1
 words_group len old new active b h e a within =
     let rest : (len + 1) % 31 ≡ 0 = omega arith in
     rw (words_of-stored (len + 1) new 0 (stored_group len old new active b h e a within), words_of-stored len old active h, rest) (omega (arith, a.at_most))

@@ -5,7 +5,7 @@ use Rattle.std.proofs.lemmas.Bool.{cases_eq, ne_eqb, lt-ltb, le-ltb, le-leb, lt-
 use Rattle.wah_words.specs.Places.{places, number}
 use Rattle.wah_words.specs.Spelling.{Word, literal, fill, same_value, regular_words, rest_of, words_of, word_values, told, word_groups, groups_told, IsProper, AreApart, IsApartFrom, IsCanonical}
 use Rattle.wah_words.specs.Bytes.{encoded, decoded, decoded_all, is_improper, are_joined, IsStored, stored, Appends, IsLeft}
-use Rattle.wah_words.proofs.PlacesLemmas.{length-places, places-zeros, places-ones, places-push, value_of}
+use Rattle.wah_words.proofs.PlacesLemmas.{length-places, places-zeros, places-ones}
 use Rattle.wah_words.proofs.SpellingLemmas.{told-append, told-cons, told-one, groups_told-append, groups_told-one, length-told, length_le-groups_told, rest_length, regular_words_told, rest_of_told, words_of_told, active_words}
 
 -- ---- one word

@@ -2,7 +2,6 @@ use Rattle.std.proofs.Common.{◌≡◌, ℕ, ◌+◌, ◌*◌, ◌%◌, ◌<◌
 use Rattle.wah_words.specs.Spelling.{words_of}
 use Rattle.wah_words.specs.Bytes.{stored, IsStored}
 use Rattle.wah_words.specs.Places.{places}
-use Rattle.wah_words.proofs.PlacesLemmas.{value_of}
 use Rattle.wah_words.proofs.StoredLemmas.{length-stored, not_tail}
 use Rattle.wah_words.proofs.builder.Builder.len.Goals as goal
 

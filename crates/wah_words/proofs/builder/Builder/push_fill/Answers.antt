@@ -2,7 +2,6 @@ use Rattle.std.proofs.Common.{◌≡◌, ℕ, ◌+◌, ◌*◌, ◌%◌, ◌<◌
 use Rattle.wah_words.specs.Spelling.{words_of}
 use Rattle.wah_words.specs.Bytes.{stored, IsStored}
 use Rattle.wah_words.specs.Places.{places}
-use Rattle.wah_words.proofs.PlacesLemmas.{value_of}
 use Rattle.wah_words.proofs.StoredLemmas.{length-stored, not_tail, stored_append, values_append, words_append}
 use Rattle.wah_words.proofs.builder.Builder.push_fill.Goals as goal
 

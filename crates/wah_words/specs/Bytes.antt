@@ -90,6 +90,14 @@ sized_at len m bytes = if nat_lt 4194304 len then Err TooLong else if nat_lt (le
 unfoldable pub vector_at : List ℕ → Result (List Bool × ℕ) WordsFault
 vector_at bytes = if nat_lt (length bytes) 8 then Err Short else sized_at (number_at bytes) (number_at (drop 4 bytes)) bytes
 
+-- the first wrong word, where reading the words answered a fault
+abbrev pub IsWrongAt : Option ℕ → WordsFault → Type 0
+IsWrongAt wrong (NotCanonical k) = wrong ≡ Some k
+IsWrongAt wrong OutOfMemory = Unit {0}
+IsWrongAt wrong Short = ⊥
+IsWrongAt wrong TooLong = ⊥
+IsWrongAt wrong Groups = ⊥
+
 -- what a call answered is what reading gives, unless memory ran out
 abbrev pub Fails : WordsFault → Result (List Bool × ℕ) WordsFault → Type 0
 Fails OutOfMemory read = Unit {0}

@@ -11,6 +11,7 @@ mod reading;
 mod run;
 mod wah;
 mod words;
+mod writing;
 
 pub use builder::Builder;
 pub use cursor::Cursor;

@@ -5,7 +5,9 @@ ghost use Rattle.wah_words.specs.Bytes.{spelling, vector_at, Reads};
 use crate::cursor::Cursor;
 use crate::fault::WordsFault;
 use crate::reading::read_vector;
-use crate::words::append_number;
+use crate::writing::{
+    active_size, append_active, append_number, append_words, copy_words, look_at_active,
+};
 use std::alloc::{AllocError, Global};
 use std::marker::Model;
 use std::sync::ledger::Ledger;
@@ -77,14 +79,8 @@ impl Wah {
         ensures steps { OnOk result (steps.new ≡ steps.old + words_of self.now) }
         ensures no_steps { OnErr result (steps.new ≡ steps.old) }
     {
-        let mut regular = Vec::with_capacity(alloc, self.regular.len())?;
-        for word in &self.regular {
-            steps.tick();
-            regular.push_reserved(*word);
-        }
-        if self.len % 31 != 0 {
-            steps.tick();
-        }
+        let regular = copy_words(alloc, &self.regular, steps)?;
+        look_at_active(self.len, steps);
         Ok(Wah {
             len: self.len,
             regular,
@@ -104,18 +100,11 @@ impl Wah {
         ensures no_steps { OnErr result (steps.new ≡ steps.old) }
     {
         let count = self.regular.len();
-        let size = 8 + 4 * count + if self.len % 31 == 0 { 0 } else { 4 };
-        let mut bytes = Vec::with_capacity(alloc, size)?;
+        let mut bytes = Vec::with_capacity(alloc, 8 + 4 * count + active_size(self.len))?;
         append_number(&mut bytes, self.len);
         append_number(&mut bytes, count as u32);
-        for word in &self.regular {
-            steps.tick();
-            append_number(&mut bytes, *word);
-        }
-        if self.len % 31 != 0 {
-            steps.tick();
-            append_number(&mut bytes, self.active);
-        }
+        append_words(&mut bytes, &self.regular, steps);
+        append_active(&mut bytes, self.len, self.active, steps);
         Ok(bytes)
     }
 

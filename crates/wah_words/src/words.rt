@@ -1,9 +1,9 @@
 //! Regular words as numbers.
-ghost use Rattle.std.specs.Prelude.{◌≡◌, ◌+◌, ◌*◌, ◌<◌, ◌≤◌, ◌++◌, replicate, vec_len};
+ghost use Rattle.std.specs.Prelude.{◌≡◌, ◌+◌, ◌*◌, ◌<◌, replicate, vec_len};
 ghost use Rattle.std.specs.Vec.{vec_capacity};
 ghost use Rattle.wah_words.specs.Places.{places};
 ghost use Rattle.wah_words.specs.Spelling.{literal, fill, word_groups, IsCanonical, groups_told};
-ghost use Rattle.wah_words.specs.Bytes.{encoded, decoded, decoded_all, number_bytes, is_improper, are_joined, Appends};
+ghost use Rattle.wah_words.specs.Bytes.{encoded, decoded, decoded_all, is_improper, are_joined, Appends};
 ghost use Rattle.wah_words.specs.Left.{run_of_word};
 
 use crate::run::Run;
@@ -116,19 +116,4 @@ pub(crate) fn are_joined_words(last: u32, word: u32) -> bool
     ensures { result ≡ are_joined (decoded last) (decoded word) }
 {
     last >= FILL && word >= FILL && (last >= ONES) == (word >= ONES)
-}
-
-/// Appends the four bytes of the number, the lowest first.
-#[inline(always)]
-pub(crate) fn append_number(bytes: &mut Vec<u8>, number: u32)
-    requires { vec_len bytes.old + 4 ≤ vec_capacity bytes.old }
-    ensures items { bytes.new.items ≡ bytes.old.items ++ number_bytes number }
-    ensures len { vec_len bytes.new ≡ vec_len bytes.old + 4 }
-    ensures capacity { vec_capacity bytes.new ≡ vec_capacity bytes.old }
-{
-    let [first, second, third, fourth] = number.to_le_bytes();
-    bytes.push_reserved(first);
-    bytes.push_reserved(second);
-    bytes.push_reserved(third);
-    bytes.push_reserved(fourth);
 }

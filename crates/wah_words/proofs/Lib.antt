@@ -3,3 +3,4 @@ pub mod SpellingLemmas
 pub mod WordsLemmas
 pub mod StoredLemmas
 pub mod CursorLemmas
+pub mod ReadingLemmas

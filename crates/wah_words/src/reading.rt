@@ -5,7 +5,7 @@ ghost use Rattle.wah_words.specs.Spelling.{literal, groups_told};
 
 use crate::fault::WordsFault;
 use crate::wah::{MAX_LEN, Wah};
-use crate::words::{are_joined_words, groups_of, is_improper_word};
+use crate::words::{groups_of, is_wrong_after};
 use crate::writing::active_size;
 use std::alloc::Global;
 
@@ -119,7 +119,7 @@ fn read_words(alloc: Global, count: u32, bytes: &[u8]) -> Result<Words<'_>, Word
     let mut rest = bytes;
     for place in 0..count {
         let (word, after) = number_of(rest);
-        if is_improper_word(word) || are_joined_words(last, word) {
+        if is_wrong_after(last, word) {
             return Err(WordsFault::NotCanonical(place));
         }
         regular.push_reserved(word);

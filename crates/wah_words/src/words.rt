@@ -1,5 +1,5 @@
 //! Regular words as numbers.
-ghost use Rattle.std.specs.Prelude.{◌≡◌, ◌+◌, ◌*◌, ◌<◌, replicate, vec_len};
+ghost use Rattle.std.specs.Prelude.{◌≡◌, ◌+◌, ◌*◌, ◌<◌, ◌||◌, replicate, vec_len};
 ghost use Rattle.std.specs.Vec.{vec_capacity};
 ghost use Rattle.wah_words.specs.Places.{places};
 ghost use Rattle.wah_words.specs.Spelling.{literal, fill, word_groups, IsCanonical, groups_told};
@@ -100,7 +100,7 @@ pub(crate) fn groups_of(word: u32) -> u32
 
 /// Whether the word is a fill of no group, or a literal whose places are all equal.
 #[inline(always)]
-pub(crate) fn is_improper_word(word: u32) -> bool
+fn is_improper_word(word: u32) -> bool
     ensures { result ≡ is_improper (decoded word) }
 {
     if word < FILL {
@@ -112,8 +112,16 @@ pub(crate) fn is_improper_word(word: u32) -> bool
 
 /// Whether both words are fills of one value.
 #[inline(always)]
-pub(crate) fn are_joined_words(last: u32, word: u32) -> bool
+fn are_joined_words(last: u32, word: u32) -> bool
     ensures { result ≡ are_joined (decoded last) (decoded word) }
 {
     last >= FILL && word >= FILL && (last >= ONES) == (word >= ONES)
+}
+
+/// Whether no canonical words have this word directly after the last one.
+#[inline(always)]
+pub(crate) fn is_wrong_after(last: u32, word: u32) -> bool
+    ensures { result ≡ (is_improper (decoded word) || are_joined (decoded last) (decoded word)) }
+{
+    is_improper_word(word) || are_joined_words(last, word)
 }

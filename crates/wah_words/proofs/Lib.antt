@@ -4,3 +4,4 @@ pub mod WordsLemmas
 pub mod StoredLemmas
 pub mod CursorLemmas
 pub mod ReadingLemmas
+pub mod BytesLemmas

@@ -52,7 +52,7 @@ fill_kind false n h =
         ]
     ]
 
-fill_at : (b : Bool) (m : ℕ) → m < 1073741824 → decoded (kind_of b * 1073741824 + m) ≡ fill b m
+pub fill_at : (b : Bool) (m : ℕ) → m < 1073741824 → decoded (kind_of b * 1073741824 + m) ≡ fill b m
 fill_at true m h =
     let rest : (3221225472 + m) % 1073741824 ≡ m = omega arith in
     rw (le-ltb (3221225472 + m) 2147483648 (omega arith), le-leb 3221225472 (3221225472 + m) (omega arith), rest) refl

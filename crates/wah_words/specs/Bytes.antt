@@ -27,9 +27,13 @@ number_bytes n = to_le_bytes w32 n
 unfoldable pub active_bytes : List Bool → List ℕ
 active_bytes v = if length v % 31 == 0 then [] else number_bytes (number (rest_of v))
 
+-- the bytes of regular words
+unfoldable pub words_bytes : List Word → List ℕ
+words_bytes ws = flat_map (λ w. number_bytes (encoded w)) ws
+
 -- the length, the number of regular words, these, and the active word
 unfoldable pub spelling : List Bool → List ℕ
-spelling v = number_bytes (length v) ++ (number_bytes (length (regular_words v)) ++ (flat_map (λ w. number_bytes (encoded w)) (regular_words v) ++ active_bytes v))
+spelling v = number_bytes (length v) ++ (number_bytes (length (regular_words v)) ++ (words_bytes (regular_words v) ++ active_bytes v))
 
 -- ---- reading, with the first fault
 

@@ -1,8 +1,7 @@
 //! Copies and bytes of a vector's words, with a step for each word.
 ghost use Rattle.std.specs.Prelude.{◌≡◌, ◌+◌, ◌*◌, ◌%◌, ◌≤◌, [], ◌++◌, ◌==◌, if◌then◌else◌, length, vec_len, IfOk, OnOk, OnErr};
-ghost use Rattle.std.specs.List.{flat_map};
 ghost use Rattle.std.specs.Vec.{vec_capacity};
-ghost use Rattle.wah_words.specs.Bytes.{number_bytes, active_size};
+ghost use Rattle.wah_words.specs.Bytes.{number_bytes, active_size, decoded_all, words_bytes};
 
 use std::alloc::{AllocError, Global};
 use std::sync::ledger::Ledger;
@@ -63,7 +62,7 @@ pub(crate) fn append_number(bytes: &mut Vec<u8>, number: u32)
 /// Appends the bytes of each word.
 pub(crate) fn append_words<L: Ledger>(bytes: &mut Vec<u8>, words: &[u32], steps: &mut Steps<L>)
     requires { vec_len bytes.old + 4 * length words.now ≤ vec_capacity bytes.old }
-    ensures items { bytes.new.items ≡ bytes.old.items ++ flat_map number_bytes words.now }
+    ensures items { bytes.new.items ≡ bytes.old.items ++ words_bytes (decoded_all words.now) }
     ensures len { vec_len bytes.new ≡ vec_len bytes.old + 4 * length words.now }
     ensures capacity { vec_capacity bytes.new ≡ vec_capacity bytes.old }
     ensures steps { steps.new ≡ steps.old + length words.now }

@@ -168,7 +168,7 @@ words_of-nil = words_of_told [] [] tt (lit< tt)
 
 -- ---- the words of a list are canonical and stand for it
 
-apart_literal : (g : ℕ) (ws : List Word) → IsApartFrom (literal g) ws
+pub apart_literal : (g : ℕ) (ws : List Word) → IsApartFrom (literal g) ws
 apart_literal g [] = tt
 apart_literal g (w ∷ ws) = tt
 

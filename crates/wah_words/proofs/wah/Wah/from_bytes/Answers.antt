@@ -1,12 +1,11 @@
-use Rattle.std.proofs.Common.{rules, ◌≡◌, ℕ, ◌+◌, ◌*◌, ◌<◌, ◌≤◌, ◌++◌, List, Bool, length, take, Ok, IfOk, OnOk, OnErr, ◌-◌, ◌/◌, ◌%◌, true, false, nat_eq, nat_lt, [], ◌∷◌, slice_index_or, slice_set, bit_and, bit_or, Fits, w8, w32, w64, Bor, MutBor}
-use Rattle.wah_words.specs.Spelling.{words_of}
+use Rattle.std.proofs.Common.{◌≡◌, ℕ, List, Bool, Result, Ok, Err, take, length, ◌++◌, arith, subst, ap, sym, ◌∙◌}
+use Rattle.std.specs.Prelude.{IfOk}
 use Rattle.wah_words.specs.Bytes.{spelling, vector_at, Reads}
+use Rattle.wah_words.proofs.BytesLemmas.{IsBytes, read_takes, vector_again}
 use Rattle.wah_words.proofs.wah.Wah.from_bytes.Goals as goal
 
--- src/wah.rt:112:5
 pub returns-clause-found : goal.returns-clause-found
-returns-clause-found c = ?
+returns-clause-found c = read_takes c.args.bytes.now c.read_vector.result (λ i. (c.type_inv.bytes i).fits) c.read_vector.ensures
 
--- src/wah.rt:112:5
 pub returns-clause-only : goal.returns-clause-only
-returns-clause-only c = ?
+returns-clause-only c = λ v rest within e. subst (λ r. Reads c.read_vector.result r) (ap vector_at e ∙ vector_again v rest within) c.read_vector.ensures

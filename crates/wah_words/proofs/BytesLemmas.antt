@@ -86,8 +86,8 @@ length-active_bytes : (v : List Bool) → length (active_bytes v) ≡ active_siz
 unfolding active_bytes
 length-active_bytes v =
     elim (cases_eq (length v % 31) 0) [
-      inl e ↦ rw e refl
-    | inr some ↦ rw (ne_eqb (length v % 31) 0 some) (length-number_bytes (number (rest_of v)))
+      | inl e ↦ rw e refl
+      | inr some ↦ rw (ne_eqb (length v % 31) 0 some) (length-number_bytes (number (rest_of v)))
     ]
 
 pub length-spelling_parts : (v : List Bool) → length (spelling v) ≡ 8 + 4 * length (regular_words v) + active_size (length v)
@@ -152,7 +152,7 @@ body_stored len m bytes within e low same = record {
   canonical = canonical_right (literal 0) (numbers_at m bytes) e;
   whole = omega (arith, same);
   active_fits = leb-false (2 ^ (len % 31)) (active_at len m bytes) low;
-  within = within
+  within = within;
 }
 
 -- ---- what the bytes give, by their length
@@ -188,15 +188,15 @@ unfolding active_bytes
 active_again v rest bytes m e =
     let few = length-rest_of v in
     elim (cases_eq (length v % 31) 0) [
-      inl none ↦
-        (let nothing : rest_of v ≡ [] = nil_from_length (rest_of v) (few ∙ none) in
-        rw (none, nothing) refl)
-    | inr some ↦
-        (let is : drop (4 * m) bytes ≡ number_bytes (number (rest_of v)) ++ rest = rw (ne_eqb (length v % 31) 0 some) at e in
-        let below : number (rest_of v) < 2 ^ length (rest_of v) = number_below (rest_of v) in
-        let short : length (rest_of v) ≤ 31 = omega arith in
-        let most : 2 ^ length (rest_of v) ≤ 2 ^ 31 = pow_mono short in
-        rw (ne_eqb (length v % 31) 0 some, is) (number_at_again (number (rest_of v)) rest (omega arith)))
+      | inl none ↦
+          (let nothing : rest_of v ≡ [] = nil_from_length (rest_of v) (few ∙ none) in
+          rw (none, nothing) refl)
+      | inr some ↦
+          (let is : drop (4 * m) bytes ≡ number_bytes (number (rest_of v)) ++ rest = rw (ne_eqb (length v % 31) 0 some) at e in
+          let below : number (rest_of v) < 2 ^ length (rest_of v) = number_below (rest_of v) in
+          let short : length (rest_of v) ≤ 31 = omega arith in
+          let most : 2 ^ length (rest_of v) ≤ 2 ^ 31 = pow_mono short in
+          rw (ne_eqb (length v % 31) 0 some, is) (number_at_again (number (rest_of v)) rest (omega arith)))
     ]
 
 body_again : (v : List Bool) (rest : List ℕ) → length v ≤ 4194304 → body_at (length v) (length (regular_words v)) (words_bytes (regular_words v) ++ (active_bytes v ++ rest)) ≡ Ok (v, length (spelling v))
@@ -251,8 +251,8 @@ vector_again v rest within =
 IsBytes-take : (n : ℕ) (bytes : List ℕ) → IsBytes bytes → IsBytes (take n bytes)
 IsBytes-take n bytes h i =
     elim (cases_lt i n) [
-      inl in_front ↦ rw (get_or-take n bytes i 0 in_front) (h i)
-    | inr past ↦ rw (get_or_past (take n bytes) i 0 (rw (length-take n bytes) (omega arith))) (lit< tt)
+      | inl in_front ↦ rw (get_or-take n bytes i 0 in_front) (h i)
+      | inr past ↦ rw (get_or_past (take n bytes) i 0 (rw (length-take n bytes) (omega arith))) (lit< tt)
     ]
 
 number_at_fits : (bytes : List ℕ) → IsBytes bytes → number_at bytes < 4294967296
@@ -284,10 +284,10 @@ words_taken (suc m) bytes h long =
 active_taken : (len : ℕ) (bytes : List ℕ) → IsBytes bytes → active_size len ≤ length bytes → bytes ≡ cond (eqb (len % 31) 0) [] (number_bytes (cond (eqb (len % 31) 0) 0 (number_at bytes))) ++ drop (active_size len) bytes
 active_taken len bytes h long =
     elim (cases_eq (len % 31) 0) [
-      inl none ↦ rw none refl
-    | inr some ↦
-        (let enough : 4 ≤ length bytes = rw (ne_eqb (len % 31) 0 some) at long in
-        rw (ne_eqb (len % 31) 0 some) (number_taken bytes h enough))
+      | inl none ↦ rw none refl
+      | inr some ↦
+          (let enough : 4 ≤ length bytes = rw (ne_eqb (len % 31) 0 some) at long in
+          rw (ne_eqb (len % 31) 0 some) (number_taken bytes h enough))
     ]
 
 guard_ok : {A : Type 0} (b : Bool) (fault : WordsFault) (read : Result A WordsFault) (x : A) → cond b (Err fault) read ≡ Ok x → (b ≡ false) × (read ≡ Ok x)
@@ -326,7 +326,7 @@ body_takes len m bytes x within e =
     record {
       is_stored = body_stored len m bytes within right.0 low.0 (eqb-true (groups_told ws) (len / 31) same.0);
       values = same.1;
-      size = sized.1
+      size = sized.1;
     }
 
 -- the bytes after the length and the number of words
@@ -349,7 +349,7 @@ takes_front a b t bytes rest e =
     let regroup : a ++ (b ++ (t ++ rest)) ≡ (a ++ (b ++ t)) ++ rest = sym (append_assoc a (b ++ t) rest ∙ ap (λ l. a ++ l) (append_assoc b t rest)) in
     ap (take (length (a ++ (b ++ t)))) (e ∙ regroup) ∙ take_at (a ++ (b ++ t)) rest (length (a ++ (b ++ t))) refl
 
-pub vector_takes : (bytes : List ℕ) (x : List Bool × ℕ) → IsBytes bytes → vector_at bytes ≡ Ok x → take x.1 bytes ≡ spelling x.0
+pub vector_takes : (bytes : List ℕ) (x : List Bool × ℕ) → IsBytes bytes → vector_at bytes ≡ Ok x → (take x.1 bytes ≡ spelling x.0) × (x.1 ≡ length (spelling x.0)) × (x.1 ≤ length bytes)
 unfolding vector_at sized_at
 vector_takes bytes x h e =
     let len = number_at bytes in
@@ -375,12 +375,17 @@ vector_takes bytes x h e =
     let third : body ≡ end ++ rest = rest_taken len m body (IsBytes-drop 8 bytes h) body_long in
     let split : bytes ≡ number_bytes len ++ (number_bytes m ++ (end ++ rest)) = first ∙ ap (λ l. number_bytes len ++ l) (second ∙ ap (λ l. number_bytes m ++ l) third) in
     let spelled : spelling x.0 ≡ number_bytes len ++ (number_bytes m ++ end) = ap spelling (sym t.values) ∙ spelling-stored len items active t.is_stored ∙ ap (λ k. number_bytes len ++ (number_bytes k ++ end)) (length-numbers_at m body) in
-    let n : x.1 ≡ length (number_bytes len ++ (number_bytes m ++ end)) = sym t.size ∙ size_of_spelling len m items active x.0 t.is_stored t.values (length-numbers_at m body) ∙ ap length spelled in
-    ap (λ k. take k bytes) n ∙ takes_front (number_bytes len) (number_bytes m) end bytes rest split ∙ sym spelled
+    let used : x.1 ≡ length (spelling x.0) = sym t.size ∙ size_of_spelling len m items active x.0 t.is_stored t.values (length-numbers_at m body) in
+    let n : x.1 ≡ length (number_bytes len ++ (number_bytes m ++ end)) = used ∙ ap length spelled in
+    (ap (λ k. take k bytes) n ∙ takes_front (number_bytes len) (number_bytes m) end bytes rest split ∙ sym spelled, used, omega (arith, t.size, size))
 
 pub read_takes : (bytes : List ℕ) (r : Result (List Bool × ℕ) WordsFault) → IsBytes bytes → Reads r (vector_at bytes) → IfOk r (λ x. take x.1 bytes ≡ spelling x.0)
-read_takes bytes (Ok x) h e = vector_takes bytes x h e
+read_takes bytes (Ok x) h e = (vector_takes bytes x h e).0
 read_takes bytes (Err fault) h e = tt
+
+pub read_uses : (bytes : List ℕ) (r : Result (List Bool × ℕ) WordsFault) → IsBytes bytes → Reads r (vector_at bytes) → IfOk r (λ x. (x.1 ≡ length (spelling x.0)) × (x.1 ≤ length bytes))
+read_uses bytes (Ok x) h e = let t = vector_takes bytes x h e in (t.1, t.2)
+read_uses bytes (Err fault) h e = tt
 
 -- bytes begin with the spelling of one list at most
 pub one_spelling_at : (v w : List Bool) (x y : List ℕ) → length v ≤ 4194304 → length w ≤ 4194304 → spelling v ++ x ≡ spelling w ++ y → v ≡ w

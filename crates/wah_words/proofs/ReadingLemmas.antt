@@ -34,18 +34,18 @@ wrong_push d (v ∷ ws) w vs h e =
 proper_decoded : (n : ℕ) → is_improper (decoded n) ≡ false → IsProper (decoded n)
 proper_decoded n e =
     elim (cases_lt n 2147483648) [
-      inl low ↦
-        (let word : decoded n ≡ literal n = rw (lt-ltb n 2147483648 low) refl in
-        let e' : is_improper (literal n) ≡ false = rw word at e in
-        let p = or_parts (eqb n 0) (eqb n 2147483647) e' in
-        let not_zero = eqb-false n 0 p.0 in
-        let not_ones = eqb-false n 2147483647 p.1 in
-        rw word (omega arith, omega arith))
-    | inr high ↦
-        (let word : decoded n ≡ fill (leb 3221225472 n) (n % 1073741824) = rw (le-ltb n 2147483648 high) refl in
-        let e' : is_improper (fill (leb 3221225472 n) (n % 1073741824)) ≡ false = rw word at e in
-        let some = eqb-false (n % 1073741824) 0 e' in
-        rw word (omega arith))
+      | inl low ↦
+          (let word : decoded n ≡ literal n = rw (lt-ltb n 2147483648 low) refl in
+          let e' : is_improper (literal n) ≡ false = rw word at e in
+          let p = or_parts (eqb n 0) (eqb n 2147483647) e' in
+          let not_zero = eqb-false n 0 p.0 in
+          let not_ones = eqb-false n 2147483647 p.1 in
+          rw word (omega arith, omega arith))
+      | inr high ↦
+          (let word : decoded n ≡ fill (leb 3221225472 n) (n % 1073741824) = rw (le-ltb n 2147483648 high) refl in
+          let e' : is_improper (fill (leb 3221225472 n) (n % 1073741824)) ≡ false = rw word at e in
+          let some = eqb-false (n % 1073741824) 0 e' in
+          rw word (omega arith))
     ]
 
 apart_unless_joined : (v w : Word) → are_joined v w ≡ false → AreApart v w
@@ -118,8 +118,8 @@ groups_more items word = rw (decoded_all-push items word) (groups_told-append (d
 pub word_groups_le : (n : ℕ) → word_groups (decoded n) ≤ 1073741824
 word_groups_le n =
     elim (cases_lt n 2147483648) [
-      inl low ↦ rw (lt-ltb n 2147483648 low) (omega arith)
-    | inr high ↦ rw (le-ltb n 2147483648 high) (omega arith)
+      | inl low ↦ rw (lt-ltb n 2147483648 low) (omega arith)
+      | inr high ↦ rw (le-ltb n 2147483648 high) (omega arith)
     ]
 
 pub rest_more : (k : ℕ) (bytes : List ℕ) → drop 4 (drop (4 * k) bytes) ≡ drop (4 * (k + 1)) bytes

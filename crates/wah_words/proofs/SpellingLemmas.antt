@@ -210,35 +210,35 @@ groups_told_before (fill false n) (fill false m ∷ ws) = omega arith
 group_word_proper : (g : ℕ) → g < 2147483648 → IsProper (group_word g)
 group_word_proper g h =
     elim (cases_eq g 0) [
-      inl e ↦ rw e (lit< tt)
-    | inr not_zero ↦
-        elim (cases_eq g 2147483647) [
-          inl e ↦ rw e (lit< tt)
-        | inr not_ones ↦ rw (group_word-mixed g (omega arith) (omega arith)) (omega arith, omega arith)
-        ]
+      | inl e ↦ rw e (lit< tt)
+      | inr not_zero ↦
+          elim (cases_eq g 2147483647) [
+            | inl e ↦ rw e (lit< tt)
+            | inr not_ones ↦ rw (group_word-mixed g (omega arith) (omega arith)) (omega arith, omega arith)
+          ]
     ]
 
 group_word_values : (g : ℕ) → g < 2147483648 → word_values (group_word g) ≡ places 31 g
 unfolding word_values
 group_word_values g h =
     elim (cases_eq g 0) [
-      inl e ↦ rw e (sym (places-zeros 31))
-    | inr not_zero ↦
-        elim (cases_eq g 2147483647) [
-          inl e ↦ rw e (sym (places-ones 31 2147483647 refl))
-        | inr not_ones ↦ rw (group_word-mixed g (omega arith) (omega arith)) refl
-        ]
+      | inl e ↦ rw e (sym (places-zeros 31))
+      | inr not_zero ↦
+          elim (cases_eq g 2147483647) [
+            | inl e ↦ rw e (sym (places-ones 31 2147483647 refl))
+            | inr not_ones ↦ rw (group_word-mixed g (omega arith) (omega arith)) refl
+          ]
     ]
 
 group_word_groups : (g : ℕ) → word_groups (group_word g) ≡ 1
 group_word_groups g =
     elim (cases_eq g 0) [
-      inl e ↦ rw e refl
-    | inr not_zero ↦
-        elim (cases_eq g 2147483647) [
-          inl e ↦ rw e refl
-        | inr not_ones ↦ rw (ne_eqb g 0 not_zero, ne_eqb g 2147483647 not_ones) refl
-        ]
+      | inl e ↦ rw e refl
+      | inr not_zero ↦
+          elim (cases_eq g 2147483647) [
+            | inl e ↦ rw e refl
+            | inr not_ones ↦ rw (ne_eqb g 0 not_zero, ne_eqb g 2147483647 not_ones) refl
+          ]
     ]
 
 first_group : (v : List Bool) → 31 ≤ length v → length (take 31 v) ≡ 31

@@ -49,7 +49,7 @@ stored_append len old new active values g h e a fits =
       canonical = a.canonical;
       whole = rw (same, a.groups_told) (omega (arith, h.whole));
       active_fits = rw same h.active_fits;
-      within = fits
+      within = fits;
     }
 
 pub values_append : (len : ℕ) (old new : List ℕ) (active : ℕ) (values : List Bool) (g : ℕ) → len % 31 ≡ 0 → Appends old new values g → stored (len + 31 * g) new active ≡ stored len old active ++ values
@@ -69,7 +69,7 @@ stored_tail len items active bits count h e some few fits within =
       canonical = h.canonical;
       whole = rw rest (omega (arith, h.whole));
       active_fits = rw rest fits;
-      within = within
+      within = within;
     }
 
 pub values_tail : (len : ℕ) (items : List ℕ) (active bits count : ℕ) → len % 31 ≡ 0 → count ≤ 30 → stored (len + count) items bits ≡ stored len items active ++ places count bits
@@ -95,7 +95,7 @@ stored_bit len items active b h part within =
       canonical = h.canonical;
       whole = rw rest (omega (arith, h.whole));
       active_fits = rw rest (twice_fits (len % 31) active b h.active_fits);
-      within = within
+      within = within;
     }
 
 pub values_bit : (len : ℕ) (items : List ℕ) (active : ℕ) (b : Bool) → IsStored len items active → (len % 31 ≡ 30 → ⊥) → stored (len + 1) items (2 * active + from_bool b) ≡ stored len items active ++ b ∷ []
@@ -117,7 +117,7 @@ stored_group len old new active b h e a within =
       canonical = a.canonical;
       whole = rw (rest, a.groups_told) (omega (arith, h.whole));
       active_fits = rw rest (lit< tt);
-      within = within
+      within = within;
     }
 
 pub values_group : (len : ℕ) (old new : List ℕ) (active : ℕ) (b : Bool) → IsStored len old active → len % 31 ≡ 30 → Appends old new (places 31 (2 * active + from_bool b)) 1 → stored (len + 1) new 0 ≡ stored len old active ++ b ∷ []

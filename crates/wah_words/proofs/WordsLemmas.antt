@@ -19,12 +19,12 @@ decoded_high n h = rw (le-ltb n 2147483648 h) refl
 pub encoded_decoded : (n : ℕ) → n < 4294967296 → encoded (decoded n) ≡ n
 encoded_decoded n h =
     elim (cases_lt n 2147483648) [
-      inl low ↦ rw (lt-ltb n 2147483648 low) refl
-    | inr high ↦
-        elim (cases_lt n 3221225472) [
-          inl zeros ↦ rw (le-ltb n 2147483648 high, lt-leb 3221225472 n zeros) (omega arith)
-        | inr ones ↦ rw (le-ltb n 2147483648 high, le-leb 3221225472 n ones) (omega arith)
-        ]
+      | inl low ↦ rw (lt-ltb n 2147483648 low) refl
+      | inr high ↦
+          elim (cases_lt n 3221225472) [
+            | inl zeros ↦ rw (le-ltb n 2147483648 high, lt-leb 3221225472 n zeros) (omega arith)
+            | inr ones ↦ rw (le-ltb n 2147483648 high, le-leb 3221225472 n ones) (omega arith)
+          ]
     ]
 
 -- the two highest bits of a word
@@ -35,21 +35,21 @@ kind_of false = 2
 pub fill_kind : (b : Bool) (n : ℕ) → n < 4294967296 → eqb (n / 1073741824) (kind_of b) ≡ are_joined (decoded n) (fill b 1)
 fill_kind true n h =
     elim (cases_lt n 2147483648) [
-      inl low ↦ rw (lt-ltb n 2147483648 low) (ne_eqb (n / 1073741824) 3 (λ e. omega arith))
-    | inr high ↦
-        elim (cases_lt n 3221225472) [
-          inl zeros ↦ rw (le-ltb n 2147483648 high, lt-leb 3221225472 n zeros) (ne_eqb (n / 1073741824) 3 (λ e. omega arith))
-        | inr ones ↦ let e : n / 1073741824 ≡ 3 = omega arith in rw (le-ltb n 2147483648 high, le-leb 3221225472 n ones, e) refl
-        ]
+      | inl low ↦ rw (lt-ltb n 2147483648 low) (ne_eqb (n / 1073741824) 3 (λ e. omega arith))
+      | inr high ↦
+          elim (cases_lt n 3221225472) [
+            | inl zeros ↦ rw (le-ltb n 2147483648 high, lt-leb 3221225472 n zeros) (ne_eqb (n / 1073741824) 3 (λ e. omega arith))
+            | inr ones ↦ let e : n / 1073741824 ≡ 3 = omega arith in rw (le-ltb n 2147483648 high, le-leb 3221225472 n ones, e) refl
+          ]
     ]
 fill_kind false n h =
     elim (cases_lt n 2147483648) [
-      inl low ↦ rw (lt-ltb n 2147483648 low) (ne_eqb (n / 1073741824) 2 (λ e. omega arith))
-    | inr high ↦
-        elim (cases_lt n 3221225472) [
-          inl zeros ↦ let e : n / 1073741824 ≡ 2 = omega arith in rw (le-ltb n 2147483648 high, lt-leb 3221225472 n zeros, e) refl
-        | inr ones ↦ rw (le-ltb n 2147483648 high, le-leb 3221225472 n ones) (ne_eqb (n / 1073741824) 2 (λ e. omega arith))
-        ]
+      | inl low ↦ rw (lt-ltb n 2147483648 low) (ne_eqb (n / 1073741824) 2 (λ e. omega arith))
+      | inr high ↦
+          elim (cases_lt n 3221225472) [
+            | inl zeros ↦ let e : n / 1073741824 ≡ 2 = omega arith in rw (le-ltb n 2147483648 high, lt-leb 3221225472 n zeros, e) refl
+            | inr ones ↦ rw (le-ltb n 2147483648 high, le-leb 3221225472 n ones) (ne_eqb (n / 1073741824) 2 (λ e. omega arith))
+          ]
     ]
 
 pub fill_at : (b : Bool) (m : ℕ) → m < 1073741824 → decoded (kind_of b * 1073741824 + m) ≡ fill b m
@@ -79,7 +79,7 @@ joined_number b n h e =
     record {
       same = ap decoded split ∙ fill_at b (n % 1073741824) low;
       more = λ g f. (let e2 : n + g ≡ kind_of b * 1073741824 + (n % 1073741824 + g) = omega arith in ap decoded e2 ∙ fill_at b (n % 1073741824 + g) f);
-      fits = λ g f. omega arith
+      fits = λ g f. omega arith;
     }
 
 -- ---- words at the end
@@ -121,7 +121,7 @@ appends_pushed xs y w e h a p =
       told = rw words (told_push (decoded_all xs) w);
       groups_told = rw words (groups_push (decoded_all xs) w);
       at_least = omega (arith, length_push xs y);
-      at_most = omega (arith, length_push xs y)
+      at_most = omega (arith, length_push xs y);
     }
 
 word_values_fill : (b : Bool) (n : ℕ) → word_values (fill b n) ≡ replicate (31 * n) b
@@ -155,7 +155,7 @@ appends_joined xs y b g number fits h some =
       told = rw (is, was) values;
       groups_told = rw (is, was) groups;
       at_least = omega (arith, length_push xs y, length_push xs (y + g));
-      at_most = omega (arith, length_push xs y, length_push xs (y + g))
+      at_most = omega (arith, length_push xs y, length_push xs (y + g));
     }
 
 -- ---- the same, told by the place of the last word

@@ -1,7 +1,7 @@
 use thiserror::Error;
 
 /// Why bytes are refused.
-#[derive(Debug, Drop, Error)]
+#[derive(Debug, Drop, PartialEq, Eq, Error)]
 pub enum WordsFault {
     /// The bytes end before the vector does.
     #[error("bytes are missing")]

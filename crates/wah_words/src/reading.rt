@@ -61,12 +61,7 @@ fn is_too_high(len: u32, active: u32) -> bool
     active >= 1 << (len % 31)
 }
 
-fn read_body(
-    alloc: Global,
-    len: u32,
-    count: u32,
-    body: &[u8],
-) -> Result<(Wah, usize), WordsFault>
+fn read_body(alloc: Global, len: u32, count: u32, body: &[u8]) -> Result<(Wah, usize), WordsFault>
     requires limit { len ≤ 4194304 }
     requires few { count ≤ len / 31 }
     requires enough { 4 * count + active_size len ≤ length body.now }

@@ -112,6 +112,7 @@ impl Wah {
     pub fn from_bytes(alloc: Global, bytes: &[u8]) -> Result<(Wah, usize), WordsFault>
         // What is read is spelled so.
         ensures found { IfOk result (λ x. take x.1 bytes.now ≡ spelling x.0) }
+        ensures used { IfOk result (λ x. (x.1 ≡ length (spelling x.0)) × (x.1 ≤ length bytes.now)) }
 
         // What is spelled so is read, unless memory runs out.
         ensures only { (v : List Bool) (rest : List ℕ) → length v ≤ 4194304 → bytes.now ≡ spelling v ++ rest → Reads result (Ok (v, length (spelling v))) }

@@ -37,7 +37,7 @@ loop-place-preserved c =
       few = omega (arith, i.few, one_more, fits);
       len = omega (arith, c.push_reserved.ensures.len, i.len);
       capacity = c.push_reserved.ensures.capacity ∙ i.capacity;
-      rest = c.number_of-word.ensures.rest ∙ ap (drop 4) i.rest ∙ rest_more c.loop-place.place c.args.bytes.now
+      rest = c.number_of-word.ensures.rest ∙ ap (drop 4) i.rest ∙ rest_more c.loop-place.place c.args.bytes.now;
     })
 
 pub returns-clause-regular : goal.returns-clause-regular

@@ -14,5 +14,5 @@ invariant-loop-place l = record {
   few : l.groups ≤ 1073741824 * l.place;
   len : vec_len l.regular ≡ l.place;
   capacity : vec_capacity l.regular ≡ l.count;
-  rest : l.rest ≡ drop (4 * l.place) l.bytes
+  rest : l.rest ≡ drop (4 * l.place) l.bytes;
 }

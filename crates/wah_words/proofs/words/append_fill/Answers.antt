@@ -28,8 +28,8 @@ returns-clause-appends c =
     let xs = c.args.regular.now.items in
     let k = c.len-count.result - 1 in
     let apart : AreApart (last_of (literal 0) (decoded_all xs)) (fill c.args.bit c.args.groups) =
-      elim c.if-count-gt0.branch [
-        then-count-gt0+else-is_fill_of w ↦ apart_last xs k w.index-last.result.now c.args.bit c.args.groups (omega (arith, c.args.regular.now.ok.0)) w.index-last.ensures (sym w.is_fill_of.ensures.fill ∙ w.if-is_fill_of.false)
+    elim c.if-count-gt0.branch [
+      | then-count-gt0+else-is_fill_of w ↦ apart_last xs k w.index-last.result.now c.args.bit c.args.groups (omega (arith, c.args.regular.now.ok.0)) w.index-last.ensures (sym w.is_fill_of.ensures.fill ∙ w.if-is_fill_of.false)
       | else-count-gt0 w ↦ apart_first xs c.args.bit c.args.groups (omega (arith, c.args.regular.now.ok.0))
-      ] in
+    ] in
     rw c.push_reserved.ensures.items (appends_fill xs c.fill_word.result c.args.bit c.args.groups c.fill_word.ensures.back c.requires.canonical apart c.requires.some)

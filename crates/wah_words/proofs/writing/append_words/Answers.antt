@@ -9,7 +9,7 @@ loop-word-init g c = record {
   items = sym (ap (λ l. c.args.bytes.now.items ++ l) words_bytes-none ∙ append-nil c.args.bytes.now.items);
   len = omega arith;
   capacity = refl;
-  steps = omega arith
+  steps = omega arith;
 }
 
 pub loop-word-preserved : goal.loop-word-preserved
@@ -22,5 +22,5 @@ loop-word-preserved g c =
       items = c.append_number.ensures.items ∙ ap (λ l. l ++ number_bytes (get_or xs k 0)) i.items ∙ append_assoc old (words_bytes (decoded_all (take k xs))) (number_bytes (get_or xs k 0)) ∙ ap (λ l. old ++ l) (sym (words_bytes-more xs k c.loop-word-test.true ((c.type_inv.words k).fits)));
       len = omega (arith, c.append_number.ensures.len, i.len);
       capacity = c.append_number.ensures.capacity ∙ i.capacity;
-      steps = omega (arith, c.tick.ensures, i.steps)
+      steps = omega (arith, c.tick.ensures, i.steps);
     }

@@ -8,5 +8,5 @@ invariant-loop-word g l = record {
   items : l.bytes.items ≡ l.fn.bytes.items ++ words_bytes (decoded_all (take l.word-index l.words));
   len : vec_len l.bytes ≡ vec_len l.fn.bytes + 4 * l.word-index;
   capacity : vec_capacity l.bytes ≡ vec_capacity l.fn.bytes;
-  steps : l.steps ≡ l.fn.steps + l.word-index
+  steps : l.steps ≡ l.fn.steps + l.word-index;
 }

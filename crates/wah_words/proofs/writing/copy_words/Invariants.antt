@@ -7,5 +7,5 @@ invariant-loop-word g l = record {
   items : l.copied.items ≡ take l.word-index l.words;
   len : vec_len l.copied ≡ l.word-index;
   capacity : vec_capacity l.copied ≡ length l.words;
-  steps : l.steps ≡ l.fn.steps + l.word-index
+  steps : l.steps ≡ l.fn.steps + l.word-index;
 }

@@ -1,20 +1,19 @@
 -- The bytes of a vector, and reading them: what is read is spelled so, and what is spelled so is read.
-use Rattle.std.proofs.Common.{◌≡◌, ℕ, zero, suc, ◌+◌, ◌-◌, ◌*◌, ◌/◌, ◌%◌, ◌^◌, ◌<◌, ◌≤◌, Bool, true, false, cond, eqb, ltb, leb, List, [], ◌∷◌, ◌++◌, length, take, drop, get_or, map, Option, Some, None, Result, Ok, Err, refl, sym, ap, subst, ◌∙◌, arith, length-append, append_assoc, lit<, inl, inr}
+use Rattle.std.proofs.Common.{◌≡◌, ℕ, zero, suc, ◌+◌, ◌*◌, ◌/◌, ◌%◌, ◌^◌, ◌<◌, ◌≤◌, Bool, true, false, cond, eqb, ltb, leb, List, [], ◌∷◌, ◌++◌, length, take, drop, get_or, Option, Some, None, Result, Ok, Err, refl, sym, ap, ◌∙◌, arith, length-append, append_assoc, lit<, inl, inr}
 use Rattle.std.specs.Prelude.{IfOk}
-use Rattle.std.specs.Int.{w32, to_le_bytes, from_le_bytes}
-use Rattle.std.proofs.lemmas.List.{length-map, map-append, append-nil, take_at, drop_at, take-append-drop, length-drop, length-take-le, get_or-drop, take_more, nil_from_length, drop-drop, get_or-take, get_or_past, length-take}
+use Rattle.std.proofs.lemmas.List.{length-map, append-nil, take_at, drop_at, take-append-drop, length-drop, length-take-le, get_or-drop, take_more, nil_from_length, drop-drop, get_or-take, get_or_past, length-take}
 use Rattle.std.proofs.lemmas.List.Concat.{flat_map-append}
 use Rattle.std.proofs.lemmas.Nat.{le_bytes_4, from_le_bytes-to_le_bytes_4}
-use Rattle.std.proofs.lemmas.Bool.{cases_lt, cases_eq, eqb-true, eqb-false, lt-ltb, le-ltb, le-leb, lt-leb, leb-false, ltb-false, ne_eqb, eq-eqb}
+use Rattle.std.proofs.lemmas.Bool.{cases_lt, cases_eq, eqb-true, lt-ltb, le-ltb, lt-leb, leb-false, ltb-false, ne_eqb, eq-eqb}
 use Rattle.std.proofs.Math.Pow.{pow_mono}
 use Rattle.wah_words.specs.declared.fault.WordsFault.{WordsFault}
 use Rattle.wah_words.specs.declared.fault.WordsFault.TheVariants.{Short, TooLong, Groups, NotCanonical, OutOfMemory}
 use Rattle.wah_words.specs.Places.{places, number}
-use Rattle.wah_words.specs.Spelling.{Word, literal, fill, regular_words, rest_of, words_of, told, word_groups, groups_told, IsProper, IsApartFrom, IsCanonical}
+use Rattle.wah_words.specs.Spelling.{Word, literal, fill, regular_words, rest_of, words_of, told, word_groups, groups_told, IsProper, IsCanonical}
 use Rattle.wah_words.specs.Bytes.{encoded, decoded, decoded_all, number_bytes, words_bytes, active_bytes, spelling, first_wrong, number_at, numbers_at, active_size, values_of, unless_wrong, vector_of, with_size, body_at, sized_at, vector_at, IsWrongAt, Fails, Reads, IsStored, stored}
-use Rattle.wah_words.proofs.PlacesLemmas.{length-places, number_below, number-places_below, places-of_number}
-use Rattle.wah_words.proofs.SpellingLemmas.{canonical_regular, told_regular, groups_told_regular, length-rest_of, active_words, apart_literal, length_le-groups_told}
-use Rattle.wah_words.proofs.WordsLemmas.{encoded_decoded, decoded_literal, fill_at, kind_of, decoded_all-push}
+use Rattle.wah_words.proofs.PlacesLemmas.{number_below, number-places_below, places-of_number}
+use Rattle.wah_words.proofs.SpellingLemmas.{canonical_regular, told_regular, groups_told_regular, length-rest_of, apart_literal, length_le-groups_told}
+use Rattle.wah_words.proofs.WordsLemmas.{encoded_decoded, decoded_literal, fill_at, decoded_all-push}
 use Rattle.wah_words.proofs.StoredLemmas.{length-stored, regular_words-stored, rest_of-stored}
 use Rattle.wah_words.proofs.ReadingLemmas.{canonical_right, right_canonical}
 

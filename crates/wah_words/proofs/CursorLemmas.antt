@@ -1,5 +1,5 @@
 -- What a cursor has left, and its next run.
-use Rattle.std.proofs.Common.{◌≡◌, ℕ, suc, ◌+◌, ◌-◌, ◌*◌, ◌<◌, ◌≤◌, Bool, true, false, cond, eqb, List, [], ◌∷◌, ◌++◌, length, take, drop, get_or, map, Some, None, refl, sym, ap, subst, ◌∙◌, arith, append_assoc, inl, inr}
+use Rattle.std.proofs.Common.{◌≡◌, ℕ, suc, ◌+◌, ◌-◌, ◌<◌, ◌≤◌, List, [], ◌∷◌, ◌++◌, length, take, drop, get_or, Some, None, refl, sym, ap, ◌∙◌, arith, append_assoc}
 use Rattle.std.proofs.lemmas.List.{length-map, drop_more, take_rest, append-nil}
 use Rattle.std.proofs.lemmas.Bool.{ne_eqb}
 use Rattle.wah_words.specs.Places.{places}
@@ -8,7 +8,7 @@ use Rattle.wah_words.specs.Bytes.{decoded, decoded_all, IsLeft}
 use Rattle.wah_words.specs.Left.{Left, run_values, run_of_word, IsRun, Comes}
 use Rattle.wah_words.specs.declared.run.Run.TheVariants.{Tail}
 use Rattle.wah_words.proofs.PlacesLemmas.{length-places}
-use Rattle.wah_words.proofs.SpellingLemmas.{told-cons, words_of_told, words_of-nil, active_words}
+use Rattle.wah_words.proofs.SpellingLemmas.{told-cons, words_of_told, active_words}
 
 abbrev pub left : List ℕ → ℕ → ℕ → Left
 left items active count = record { values = told (decoded_all items) ++ places count active; words = length items + active_words count }

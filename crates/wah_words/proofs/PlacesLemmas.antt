@@ -1,8 +1,8 @@
 -- Lists of truth values as numbers, and back.
-use Rattle.std.proofs.Common.{◌≡◌, ℕ, zero, suc, ◌+◌, ◌-◌, ◌*◌, ◌/◌, ◌%◌, ◌^◌, ◌<◌, ◌≤◌, Bool, true, false, cond, eqb, List, [], ◌∷◌, ◌++◌, length, replicate, refl, sym, ap, subst, ◌∙◌, arith, length-append, lit<}
+use Rattle.std.proofs.Common.{◌≡◌, ℕ, zero, suc, ◌+◌, ◌*◌, ◌/◌, ◌%◌, ◌^◌, ◌<◌, Bool, true, false, cond, eqb, List, [], ◌∷◌, ◌++◌, length, replicate, refl, sym, ap, ◌∙◌, arith, length-append, lit<}
 use Rattle.std.proofs.lemmas.List.{length-replicate}
-use Rattle.std.proofs.lemmas.Nat.{pow_pos, mod-pow-add, mod_below, div-mul-add, mod_low}
-use Rattle.std.proofs.Math.Nat.{pow-suc, mul-add-div_right, mul_assoc, mul_comm, div-add-mod', mod-eq_of_lt}
+use Rattle.std.proofs.lemmas.Nat.{pow_pos, mod-pow-add, mod_below, div-mul-add}
+use Rattle.std.proofs.Math.Nat.{pow-suc, mul-add-div_right, div-add-mod', mod-eq_of_lt}
 use Rattle.std.proofs.lemmas.Grind.{pow_more}
 use Rattle.std.specs.Int.{from_bool}
 use Rattle.wah_words.specs.Places.{places, number}

@@ -1,7 +1,7 @@
 -- Reading words from bytes: the first wrong one, and none where they are canonical.
-use Rattle.std.proofs.Common.{◌≡◌, ℕ, zero, suc, ◌+◌, ◌-◌, ◌*◌, ◌/◌, ◌%◌, ◌^◌, ◌<◌, ◌≤◌, Bool, true, false, cond, eqb, ltb, leb, ◌||◌, List, [], ◌∷◌, ◌++◌, length, take, drop, map, Option, Some, None, Result, Ok, Err, refl, sym, ap, subst, ◌∙◌, arith, length-append, append_assoc, lit<, inl, inr}
+use Rattle.std.proofs.Common.{◌≡◌, ℕ, suc, ◌+◌, ◌-◌, ◌*◌, ◌%◌, ◌<◌, ◌≤◌, Bool, true, false, cond, eqb, leb, ◌||◌, List, [], ◌∷◌, ◌++◌, length, drop, Option, Some, None, refl, sym, ap, ◌∙◌, arith, append_assoc, inl, inr}
 use Rattle.std.specs.Option.{option_map}
-use Rattle.std.proofs.lemmas.List.{length-map, append-nil, drop-drop, length-drop, length_push, map-append}
+use Rattle.std.proofs.lemmas.List.{length-map, append-nil, drop-drop, map-append}
 use Rattle.std.proofs.lemmas.Bool.{cases_lt, or_parts, eqb-false, lt-ltb, le-ltb, ne_eqb}
 use Rattle.wah_words.specs.Spelling.{Word, literal, fill, word_groups, groups_told, IsProper, AreApart, IsApartFrom, IsCanonical}
 use Rattle.wah_words.specs.Bytes.{decoded, decoded_all, is_improper, are_joined, first_wrong, number_at, numbers_at}

@@ -1,12 +1,12 @@
 -- Each list has one spelling, and each canonical spelling one list.
-use Rattle.std.proofs.Common.{◌≡◌, ℕ, zero, suc, ◌+◌, ◌-◌, ◌*◌, ◌/◌, ◌%◌, ◌^◌, ◌<◌, ◌≤◌, Bool, true, false, cond, eqb, List, [], ◌∷◌, ◌++◌, length, take, drop, replicate, refl, sym, ap, subst, ◌∙◌, arith, length-append, append_assoc, lit<, inl, inr, rules, tests}
+use Rattle.std.proofs.Common.{◌≡◌, ℕ, zero, suc, ◌+◌, ◌*◌, ◌/◌, ◌%◌, ◌<◌, ◌≤◌, Bool, true, false, cond, eqb, List, [], ◌∷◌, ◌++◌, length, take, drop, replicate, refl, sym, ap, ◌∙◌, arith, length-append, append_assoc, lit<, inl, inr, rules, tests}
 use Rattle.std.specs.List.{flat_map}
-use Rattle.std.proofs.lemmas.List.{length-replicate, append-nil, take_at, drop_at, take-append-drop, length-take, length-drop, length-take-le, replicate-append-replicate, drop-drop}
-use Rattle.std.proofs.lemmas.List.Concat.{flat_map-append, flat_map-cons}
+use Rattle.std.proofs.lemmas.List.{length-replicate, append-nil, take_at, drop_at, take-append-drop, length-drop, length-take-le, replicate-append-replicate, drop-drop}
+use Rattle.std.proofs.lemmas.List.Concat.{flat_map-append}
 use Rattle.std.proofs.lemmas.Bool.{cases_eq, ne_eqb}
 use Rattle.wah_words.specs.Places.{places, number}
-use Rattle.wah_words.specs.Spelling.{Word, literal, fill, uniform, group_word, same_value, before, spelled, groups_in, regular_words, rest_of, words_of, word_values, told, word_groups, groups_told, IsProper, AreApart, IsApartFrom, IsCanonical}
-use Rattle.wah_words.proofs.PlacesLemmas.{length-places, number_below, number-places_below, places-number, number-replicate_false, number-replicate_true, places-zeros, places-ones, places-of_number}
+use Rattle.wah_words.specs.Spelling.{Word, literal, fill, uniform, group_word, same_value, before, spelled, groups_in, regular_words, rest_of, words_of, word_values, told, word_groups, groups_told, IsProper, IsApartFrom, IsCanonical}
+use Rattle.wah_words.proofs.PlacesLemmas.{length-places, number_below, number-places_below, number-replicate_false, number-replicate_true, places-zeros, places-ones, places-of_number}
 
 -- ---- told
 

@@ -1,15 +1,14 @@
 -- What a vector has stored, and how each push changes it.
-use Rattle.std.proofs.Common.{◌≡◌, ℕ, zero, suc, ◌+◌, ◌-◌, ◌*◌, ◌/◌, ◌%◌, ◌^◌, ◌<◌, ◌≤◌, Bool, true, false, cond, eqb, List, [], ◌∷◌, ◌++◌, length, map, replicate, refl, sym, ap, subst, ◌∙◌, arith, length-append, append_assoc, lit<, lit≤, inl, inr}
+use Rattle.std.proofs.Common.{◌≡◌, ℕ, suc, ◌+◌, ◌*◌, ◌%◌, ◌^◌, ◌<◌, ◌≤◌, Bool, true, false, List, [], ◌∷◌, ◌++◌, length, refl, sym, ap, ◌∙◌, arith, length-append, append_assoc, lit<, lit≤, inl, inr}
 use Rattle.std.proofs.lemmas.List.{length-map, append-nil}
 use Rattle.std.proofs.lemmas.Bool.{cases_eq, ne_eqb}
-use Rattle.std.proofs.lemmas.Nat.{pow_pos}
 use Rattle.std.proofs.Math.Nat.{pow-suc}
 use Rattle.std.proofs.Math.Pow.{pow_mono}
 use Rattle.std.specs.Int.{from_bool}
-use Rattle.wah_words.specs.Places.{places, number}
-use Rattle.wah_words.specs.Spelling.{Word, regular_words, rest_of, words_of, told, groups_told, IsCanonical}
-use Rattle.wah_words.specs.Bytes.{decoded, decoded_all, IsStored, stored, Appends, IsLeft}
-use Rattle.wah_words.proofs.PlacesLemmas.{length-places, places-push, places-zeros}
+use Rattle.wah_words.specs.Places.{places}
+use Rattle.wah_words.specs.Spelling.{regular_words, rest_of, words_of, told, groups_told}
+use Rattle.wah_words.specs.Bytes.{decoded, decoded_all, IsStored, stored, Appends}
+use Rattle.wah_words.proofs.PlacesLemmas.{length-places, places-push}
 use Rattle.wah_words.proofs.SpellingLemmas.{length-told, length_le-groups_told, regular_words_told, rest_of_told, words_of_told, active_words}
 
 few_places : (len active : ℕ) → length (places (len % 31) active) < 31

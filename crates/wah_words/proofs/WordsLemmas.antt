@@ -1,12 +1,12 @@
 -- Words as numbers, and words at the end of others.
-use Rattle.std.proofs.Common.{◌≡◌, ℕ, zero, suc, ◌+◌, ◌-◌, ◌*◌, ◌/◌, ◌%◌, ◌^◌, ◌<◌, ◌≤◌, Bool, true, false, cond, eqb, ltb, leb, List, [], ◌∷◌, ◌++◌, length, take, drop, set, get_or, map, replicate, refl, sym, ap, subst, ◌∙◌, arith, length-append, append_assoc, lit<, inl, inr, rules, tests}
-use Rattle.std.proofs.lemmas.List.{length-map, map-append, take_all, take_more, take_more_set, length-take-le, length_push, length-set, append-nil, replicate-append-replicate}
-use Rattle.std.proofs.lemmas.Bool.{cases_eq, ne_eqb, lt-ltb, le-ltb, le-leb, lt-leb, cases_lt, eqb-true}
+use Rattle.std.proofs.Common.{◌≡◌, ℕ, ◌+◌, ◌*◌, ◌/◌, ◌%◌, ◌<◌, ◌≤◌, Bool, true, false, eqb, leb, List, [], ◌∷◌, ◌++◌, length, take, set, get_or, replicate, refl, sym, ap, subst, ◌∙◌, arith, append_assoc, inl, inr}
+use Rattle.std.proofs.lemmas.List.{map-append, take_all, take_more, take_more_set, length_push, length-set, replicate-append-replicate}
+use Rattle.std.proofs.lemmas.Bool.{ne_eqb, lt-ltb, le-ltb, le-leb, lt-leb, cases_lt, eqb-true}
 use Rattle.wah_words.specs.Places.{places, number}
-use Rattle.wah_words.specs.Spelling.{Word, literal, fill, same_value, regular_words, rest_of, words_of, word_values, told, word_groups, groups_told, IsProper, AreApart, IsApartFrom, IsCanonical}
-use Rattle.wah_words.specs.Bytes.{encoded, decoded, decoded_all, is_improper, are_joined, IsStored, stored, Appends, IsLeft}
-use Rattle.wah_words.proofs.PlacesLemmas.{length-places, places-zeros, places-ones}
-use Rattle.wah_words.proofs.SpellingLemmas.{told-append, told-cons, told-one, groups_told-append, groups_told-one, length-told, length_le-groups_told, rest_length, regular_words_told, rest_of_told, words_of_told, active_words}
+use Rattle.wah_words.specs.Spelling.{Word, literal, fill, word_values, told, word_groups, groups_told, IsProper, AreApart, IsCanonical}
+use Rattle.wah_words.specs.Bytes.{encoded, decoded, decoded_all, are_joined, Appends}
+use Rattle.wah_words.proofs.PlacesLemmas.{places-zeros, places-ones}
+use Rattle.wah_words.proofs.SpellingLemmas.{told-append, told-one, groups_told-append, groups_told-one}
 
 -- ---- one word
 

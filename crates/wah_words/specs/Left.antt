@@ -1,5 +1,5 @@
 -- What a cursor has still to give, and what one call of `advance` gives.
-use Rattle.std.specs.Prelude.{◌≡◌, ◌≢◌, ℕ, ◌+◌, ◌*◌, ◌^◌, ◌<◌, ◌≤◌, Bool, List, [], ◌++◌, length, replicate, Option, None, Some}
+use Rattle.std.specs.Prelude.{◌≡◌, ℕ, ◌+◌, ◌*◌, ◌^◌, ◌<◌, Bool, List, [], ◌++◌, replicate, Option, None, Some}
 use Rattle.wah_words.specs.declared.run.Run.{Run}
 use Rattle.wah_words.specs.declared.run.Run.TheVariants as runs
 use Rattle.wah_words.specs.Places.{places}

@@ -1,7 +1,7 @@
 -- The word-aligned spelling of a list of truth values (Wu, Otoo and Shoshani, TODS 2006, at 32 bits), with one
 -- choice of words for each list: the list is cut into groups of 31 values and a rest. There is one literal word for
 -- each mixed group and one fill word for each longest run of neighbouring groups whose values are all equal.
-use Rattle.std.specs.Prelude.{◌≡◌, ◌≢◌, ℕ, zero, suc, ◌+◌, ◌*◌, ◌/◌, ◌%◌, ◌<◌, Bool, true, false, List, [], ◌∷◌, ◌++◌, length, take, drop, replicate, ◌==◌, if◌then◌else◌}
+use Rattle.std.specs.Prelude.{◌≢◌, ℕ, zero, suc, ◌+◌, ◌*◌, ◌/◌, ◌%◌, ◌<◌, Bool, true, false, List, [], ◌∷◌, length, take, drop, replicate, ◌==◌, if◌then◌else◌}
 use Rattle.std.specs.List.{flat_map}
 use Rattle.wah_words.specs.Places.{places, number}
 

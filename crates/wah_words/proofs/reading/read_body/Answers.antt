@@ -1,6 +1,6 @@
-use Rattle.std.proofs.Common.{◌≡◌, ℕ, ◌+◌, ◌*◌, ◌/◌, ◌%◌, ◌^◌, Bool, true, false, List, cond, eqb, leb, drop, Ok, Err, None, sym, ap, subst, ◌∙◌, refl, arith}
-use Rattle.wah_words.specs.Spelling.{literal, groups_told}
-use Rattle.wah_words.specs.Bytes.{IsStored, decoded_all, numbers_at, number_at, active_size, stored}
+use Rattle.std.proofs.Common.{◌≡◌, ℕ, ◌*◌, ◌/◌, ◌%◌, ◌^◌, true, false, List, cond, eqb, leb, drop, sym, ap, ◌∙◌}
+use Rattle.wah_words.specs.Spelling.{groups_told}
+use Rattle.wah_words.specs.Bytes.{decoded_all, numbers_at, number_at}
 use Rattle.wah_words.proofs.BytesLemmas.{body_fails, body_high, body_groups, body_ok, body_stored, active_at}
 use Rattle.wah_words.proofs.reading.read_body.Goals as goal
 

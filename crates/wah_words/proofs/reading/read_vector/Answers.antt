@@ -1,6 +1,6 @@
-use Rattle.std.proofs.Common.{◌≡◌, ℕ, ◌+◌, ◌*◌, ◌/◌, ◌<◌, ◌≤◌, List, drop, length, Err, sym, ap, subst, ◌∙◌, arith}
+use Rattle.std.proofs.Common.{◌≡◌, ℕ, ◌≤◌, List, drop, length, sym, ap, subst, ◌∙◌, arith}
 use Rattle.std.proofs.lemmas.List.{drop-drop}
-use Rattle.wah_words.specs.Bytes.{number_at, active_size, body_at, sized_at, vector_at, Reads}
+use Rattle.wah_words.specs.Bytes.{number_at, body_at, sized_at, vector_at, Reads}
 use Rattle.wah_words.proofs.BytesLemmas.{vector_short, vector_sized, sized_long, sized_groups, sized_short, sized_body}
 use Rattle.wah_words.proofs.reading.read_vector.Goals as goal
 

@@ -1,6 +1,6 @@
-use Rattle.std.proofs.Common.{◌≡◌, ℕ, List, ◌+◌, ◌-◌, ◌*◌, ◌≤◌, ◌<◌, ◌++◌, ◌∷◌, [], length, drop, None, Some, refl, sym, ap, ◌∙◌, arith}
+use Rattle.std.proofs.Common.{◌≡◌, ℕ, List, ◌+◌, ◌-◌, ◌≤◌, ◌++◌, ◌∷◌, length, drop, Some, refl, sym, ap, ◌∙◌, arith}
 use Rattle.wah_words.specs.Spelling.{literal, groups_told, word_groups}
-use Rattle.wah_words.specs.Bytes.{decoded, decoded_all, number_at, numbers_at, first_wrong}
+use Rattle.wah_words.specs.Bytes.{decoded, decoded_all, numbers_at, first_wrong}
 use Rattle.wah_words.proofs.WordsLemmas.{last_of, last_of-push, decoded_all-push}
 use Rattle.wah_words.proofs.ReadingLemmas.{numbers_more, numbers_done, items_more, right_more, wrong_more, groups_more, word_groups_le, rest_more}
 use Rattle.wah_words.proofs.reading.read_words.Goals as goal

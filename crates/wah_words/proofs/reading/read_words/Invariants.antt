@@ -1,4 +1,4 @@
-use Rattle.std.proofs.Common.{◌≡◌, ◌+◌, ◌-◌, ◌*◌, ◌≤◌, ◌++◌, length, drop, vec_len, None}
+use Rattle.std.proofs.Common.{◌≡◌, ◌-◌, ◌*◌, ◌≤◌, ◌++◌, drop, vec_len, None}
 use Rattle.std.specs.Vec.{vec_capacity}
 use Rattle.wah_words.specs.Spelling.{literal, groups_told}
 use Rattle.wah_words.specs.Bytes.{decoded, decoded_all, numbers_at, first_wrong}

@@ -1,4 +1,4 @@
-use Rattle.std.proofs.Common.{◌≡◌, ◌+◌, ◌-◌, ◌<◌, ℕ, length, arith, sym, ◌∙◌}
+use Rattle.std.proofs.Common.{◌≡◌, ◌+◌, ◌-◌, ◌<◌, length, arith, sym, ◌∙◌}
 use Rattle.wah_words.specs.Spelling.{literal, fill, AreApart}
 use Rattle.wah_words.specs.Bytes.{decoded_all}
 use Rattle.wah_words.proofs.WordsLemmas.{joined_number, last_fits, appends_to_last, apart_last, apart_first, appends_fill, last_of}

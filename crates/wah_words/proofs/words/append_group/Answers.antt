@@ -1,4 +1,4 @@
-use Rattle.std.proofs.Common.{arith, ◌<◌}
+use Rattle.std.proofs.Common.{arith}
 use Rattle.wah_words.proofs.WordsLemmas.{appends_literal, appends_zeros, appends_ones}
 use Rattle.wah_words.proofs.words.append_group.Goals as goal
 

@@ -1,4 +1,4 @@
-use Rattle.std.proofs.Common.{◌≡◌, ◌+◌, ◌*◌, ◌++◌, length, take, vec_len}
+use Rattle.std.proofs.Common.{◌≡◌, ◌+◌, ◌*◌, ◌++◌, take, vec_len}
 use Rattle.std.specs.Vec.{vec_capacity}
 use Rattle.wah_words.specs.Bytes.{decoded_all, words_bytes}
 use Rattle.wah_words.proofs.writing.append_words.Given as goal

@@ -1,7 +1,4 @@
-use Rattle.std.proofs.Common.{◌≡◌, ℕ, ◌+◌, ◌*◌, ◌%◌, ◌<◌, ◌≤◌, ◌++◌, Bool, true, false, List, length, replicate, arith, ap, sym, ◌∙◌}
-use Rattle.wah_words.specs.Spelling.{words_of}
-use Rattle.wah_words.specs.Bytes.{stored, IsStored}
-use Rattle.wah_words.specs.Places.{places}
+use Rattle.std.proofs.Common.{◌≡◌, length, arith, ap, sym, ◌∙◌}
 use Rattle.wah_words.proofs.StoredLemmas.{length-stored, not_tail}
 use Rattle.wah_words.proofs.builder.Builder.len.Goals as goal
 

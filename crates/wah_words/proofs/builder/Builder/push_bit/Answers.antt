@@ -1,4 +1,4 @@
-use Rattle.std.proofs.Common.{◌≡◌, ℕ, ◌+◌, ◌*◌, ◌%◌, ◌<◌, ◌≤◌, ◌++◌, ◌∷◌, [], Bool, true, false, List, length, arith, ap, sym, ◌∙◌}
+use Rattle.std.proofs.Common.{◌≡◌, ◌+◌, ◌≤◌, ◌++◌, ◌∷◌, [], false, length, arith, ap, sym, ◌∙◌}
 use Rattle.wah_words.specs.Spelling.{words_of}
 use Rattle.wah_words.specs.Bytes.{stored}
 use Rattle.wah_words.proofs.StoredLemmas.{length-stored, stored_bit, values_bit, words_bit, values_group, words_group}

@@ -1,6 +1,6 @@
-use Rattle.std.proofs.Common.{◌≡◌, ℕ, ◌+◌, ◌*◌, ◌%◌, ◌<◌, ◌≤◌, ◌++◌, Bool, true, false, List, length, replicate, arith, ap, sym, ◌∙◌}
+use Rattle.std.proofs.Common.{◌≡◌, ◌+◌, ◌%◌, ◌≤◌, ◌++◌, length, arith, ap, sym, ◌∙◌}
 use Rattle.wah_words.specs.Spelling.{words_of}
-use Rattle.wah_words.specs.Bytes.{stored, IsStored}
+use Rattle.wah_words.specs.Bytes.{stored}
 use Rattle.wah_words.specs.Places.{places}
 use Rattle.wah_words.proofs.StoredLemmas.{length-stored, stored_tail, values_tail, words_tail}
 use Rattle.wah_words.proofs.builder.Builder.push_tail.Goals as goal

@@ -1,5 +1,4 @@
-use Rattle.std.proofs.Common.{◌≡◌, ◌<◌, false, true, arith, ap, sym, ◌∙◌}
-use Rattle.wah_words.specs.Bytes.{stored}
+use Rattle.std.proofs.Common.{arith}
 use Rattle.wah_words.proofs.StoredLemmas.{stored_none, values_none}
 use Rattle.wah_words.proofs.builder.Builder.with_room.Goals as goal
 

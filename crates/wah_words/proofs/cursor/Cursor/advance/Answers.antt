@@ -1,4 +1,4 @@
-use Rattle.std.proofs.Common.{◌≡◌, ℕ, ◌-◌, ◌<◌, length, take, drop, get_or, ap, sym, ◌∙◌, subst, Some, None}
+use Rattle.std.proofs.Common.{◌-◌, length, take, drop, get_or, ap, sym, ◌∙◌, subst, Some, None}
 use Rattle.wah_words.specs.Spelling.{words_of}
 use Rattle.wah_words.specs.Left.{Comes, run_of_word}
 use Rattle.wah_words.specs.Bytes.{decoded}

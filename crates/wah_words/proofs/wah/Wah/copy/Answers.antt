@@ -1,4 +1,4 @@
-use Rattle.std.proofs.Common.{◌≡◌, ◌+◌, length, ap, sym, arith}
+use Rattle.std.proofs.Common.{◌≡◌, length, ap, sym, arith}
 use Rattle.wah_words.specs.Spelling.{words_of}
 use Rattle.wah_words.specs.Bytes.{stored}
 use Rattle.wah_words.proofs.StoredLemmas.{words_of-stored}

@@ -1,8 +1,7 @@
-use Rattle.std.proofs.Common.{◌≡◌, ℕ, ◌+◌, ◌*◌, ◌%◌, ◌<◌, ◌≤◌, List, Bool, length, arith, ap, sym, ◌∙◌, refl}
-use Rattle.std.proofs.lemmas.Bool.{ne_eqb}
+use Rattle.std.proofs.Common.{◌≡◌, length, arith, ap, sym, ◌∙◌, refl}
 use Rattle.wah_words.specs.Spelling.{words_of}
 use Rattle.wah_words.specs.Bytes.{stored}
-use Rattle.wah_words.proofs.StoredLemmas.{length-stored, words_of-stored, items_few}
+use Rattle.wah_words.proofs.StoredLemmas.{length-stored, words_of-stored}
 use Rattle.wah_words.proofs.wah.Wah.cursor.Goals as goal
 
 pub returns-clause-words : goal.returns-clause-words

@@ -1,7 +1,6 @@
-use Rattle.std.proofs.Common.{◌≡◌, ℕ, List, Bool, Result, Ok, Err, take, length, ◌++◌, arith, subst, ap, sym, ◌∙◌}
-use Rattle.std.specs.Prelude.{IfOk}
-use Rattle.wah_words.specs.Bytes.{spelling, vector_at, Reads}
-use Rattle.wah_words.proofs.BytesLemmas.{IsBytes, read_takes, read_uses, vector_again}
+use Rattle.std.proofs.Common.{subst, ap, ◌∙◌}
+use Rattle.wah_words.specs.Bytes.{vector_at, Reads}
+use Rattle.wah_words.proofs.BytesLemmas.{read_takes, read_uses, vector_again}
 use Rattle.wah_words.proofs.wah.Wah.from_bytes.Goals as goal
 
 pub returns-clause-found : goal.returns-clause-found

@@ -1,8 +1,5 @@
-use Rattle.std.proofs.Common.{◌≡◌, ℕ, ◌+◌, ◌*◌, ◌%◌, ◌<◌, ◌≤◌, List, Bool, length, arith, ap, sym, ◌∙◌, refl}
-use Rattle.std.proofs.lemmas.Bool.{ne_eqb}
-use Rattle.wah_words.specs.Spelling.{words_of}
-use Rattle.wah_words.specs.Bytes.{stored}
-use Rattle.wah_words.proofs.StoredLemmas.{length-stored, words_of-stored, items_few}
+use Rattle.std.proofs.Common.{◌≡◌, length, arith, ap, sym, ◌∙◌}
+use Rattle.wah_words.proofs.StoredLemmas.{length-stored}
 use Rattle.wah_words.proofs.wah.Wah.len.Goals as goal
 
 pub returns-clause-length : goal.returns-clause-length

@@ -1,4 +1,4 @@
-use Rattle.std.proofs.Common.{◌≡◌, ℕ, ◌+◌, ◌*◌, ◌≤◌, List, length, ap, sym, arith, refl, ◌∙◌, ◌++◌, [], ◌%◌, cond, eqb}
+use Rattle.std.proofs.Common.{◌≡◌, ℕ, List, length, ap, sym, arith, ◌∙◌, ◌++◌, [], ◌%◌, cond, eqb}
 use Rattle.wah_words.specs.Spelling.{words_of}
 use Rattle.wah_words.specs.Bytes.{stored, spelling, number_bytes, words_bytes, decoded_all}
 use Rattle.wah_words.proofs.StoredLemmas.{words_of-stored, items_few}

@@ -21,7 +21,7 @@
 //! ghosts-counted a = record { name = a.blank.name; parts = a.blank.parts }
 //! ```
 //!
-//! (`ghosts-counted g a = ..` where the caller has bounds, as in `main` and in a test).
+//! (`ghosts-counted g a = ..` where the caller has bounds, as a test that asserts).
 #![tactic(auto)]
 
 ghost use Rattle.std.specs.Prelude.{◌≡◌, ◌+◌, ◌<◌};

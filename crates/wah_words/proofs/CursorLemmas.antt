@@ -14,7 +14,7 @@ abbrev pub left : List ℕ → ℕ → ℕ → Left
 left items active count = record { values = told (decoded_all items) ++ places count active; words = length items + active_words count }
 
 pub run_values-of_word : (w : Word) → run_values (run_of_word w) ≡ word_values w
-unfolding run_values word_values
+unfolding word_values
 run_values-of_word (literal g) = refl
 run_values-of_word (fill b n) = refl
 
@@ -42,7 +42,7 @@ pub comes_first : (items : List ℕ) (active count d : ℕ) → IsLeft items act
 comes_first items active count d h some = comes_word items (get_or items 0 d) (take (length items - 1) (drop 1 items)) active count h (first_of items d some)
 
 pub comes_tail : (items : List ℕ) (active count : ℕ) → IsLeft items active count → length items < 1 → (count ≡ 0 → ⊥) → Comes (left items active count) (Some (Tail active count)) (left items 0 0)
-unfolding told run_values places
+unfolding told places
 comes_tail [] active count h none some =
     (sym (append-nil (places count active)), rw (ne_eqb count 0 some) refl, (omega arith, h.rest, h.active_fits, refl, refl))
 comes_tail (x ∷ xs) active count h none some = absurd (omega arith)

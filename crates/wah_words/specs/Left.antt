@@ -11,7 +11,7 @@ pub record Left : Type 0 where
   pub words : ℕ
 
 -- the values of a run
-unfoldable pub run_values : Run → List Bool
+abbrev pub run_values : Run → List Bool
 run_values (runs.Fill bit groups) = replicate (31 * groups) bit
 run_values (runs.Literal word) = places 31 word
 run_values (runs.Tail bits count) = places count bits

@@ -1,0 +1,5 @@
+pub mod Places
+pub mod Spelling
+pub mod Bytes
+pub mod Left
+pub mod Built

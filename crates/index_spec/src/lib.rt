@@ -1,0 +1,8 @@
+//! Index specifications.
+#![tactic(auto)]
+
+mod spec;
+mod token;
+mod word;
+
+pub use spec::{Binning, Coarse, EncodingSpec, Spec, SpecFault, SpecKind};

@@ -1,5 +1,5 @@
 -- Tokens, one step at a time.
-use Rattle.std.proofs.Common.{◌≡◌, ℕ, zero, suc, ◌+◌, ◌-◌, ◌≤◌, ◌<◌, Bool, true, false, cond, List, [], ◌∷◌, ◌++◌, length, take, drop, refl, sym, ap, ◌∙◌, arith, rules}
+use Rattle.std.proofs.Common.{◌≡◌, ℕ, zero, suc, ◌+◌, ◌-◌, ◌≤◌, ◌<◌, Bool, true, false, cond, List, [], ◌∷◌, ◌++◌, length, get_or, drop, refl, sym, ap, ◌∙◌, append_assoc, append-nil, arith}
 use Rattle.std.specs.Prelude.{Option, Some, None}
 use Rattle.std.specs.Option.{option_map, option_and_then}
 use Rattle.index_spec.specs.declared.token.Token.{Token}
@@ -39,3 +39,43 @@ tokens_of-some b bs found e some =
     let shorter = token_at_shorter (b ∷ bs) found some in
     let enough : tokens_within (length bs) found.1 ≡ tokens_within (length found.1) found.1 = tokens_within-enough (length bs) (length found.1) found.1 (omega arith) (omega arith) in
     rw (e, some) (ap (option_map (λ more. found.0 ∷ more)) enough)
+
+-- ---- the same for a text that isn't empty, as the loop asks
+
+pub blank-step : (text : List ℕ) → 0 < length text → is_blank (get_or text 0 0) ≡ true → tokens_of text ≡ tokens_of (drop 1 text)
+blank-step [] some e = absurd (omega arith)
+blank-step (b ∷ bs) some e = tokens_of-blank b bs e
+
+pub none-step : (text : List ℕ) → 0 < length text → is_blank (get_or text 0 0) ≡ false → token_at text ≡ None → tokens_of text ≡ None
+none-step [] some e none = absurd (omega arith)
+none-step (b ∷ bs) some e none = tokens_of-none b bs e none
+
+pub some-step : (text rest : List ℕ) (token : Token) → 0 < length text → is_blank (get_or text 0 0) ≡ false → token_at text ≡ Some (token, rest) → tokens_of text ≡ before (token ∷ []) (tokens_of rest)
+some-step [] rest token some e found = absurd (omega arith)
+some-step (b ∷ bs) rest token some e found = tokens_of-some b bs (token, rest) e found
+
+pub before-none : (front : List Token) → before front None ≡ None
+before-none front = refl
+
+pub before-before : (front more : List Token) (o : Option (List Token)) → before front (before more o) ≡ before (front ++ more) o
+before-before front more None = refl
+before-before front more (Some ts) = ap Some (sym (append_assoc front more ts))
+
+pub before-empty : (o : Option (List Token)) → before [] o ≡ o
+before-empty None = refl
+before-empty (Some ts) = refl
+
+pub tokens_of-empty : (text : List ℕ) → length text ≡ 0 → tokens_of text ≡ Some []
+unfolding tokens_of
+tokens_of-empty [] e = refl
+tokens_of-empty (b ∷ bs) e = absurd (omega arith)
+
+-- the loop, where it ends
+pub all-read : (text rest : List ℕ) (tokens : List Token) → tokens_of text ≡ before tokens (tokens_of rest) → length rest ≡ 0 → Some tokens ≡ tokens_of text
+all-read text rest tokens so_far done =
+    sym (so_far ∙ (ap (before tokens) (tokens_of-empty rest done) ∙ ap Some (append-nil tokens)))
+
+-- where it finds a token
+pub one-more : (text rest after : List ℕ) (tokens pushed : List Token) (token : Token) → tokens_of text ≡ before tokens (tokens_of rest) → tokens_of rest ≡ before (token ∷ []) (tokens_of after) → pushed ≡ tokens ++ token ∷ [] → tokens_of text ≡ before pushed (tokens_of after)
+one-more text rest after tokens pushed token so_far step e =
+    so_far ∙ (ap (before tokens) step ∙ (before-before tokens (token ∷ []) (tokens_of after) ∙ ap (λ ts. before ts (tokens_of after)) (sym e)))

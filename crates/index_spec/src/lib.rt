@@ -1,6 +1,7 @@
 //! Index specifications.
 #![tactic(auto)]
 
+mod options;
 mod spec;
 mod token;
 mod word;

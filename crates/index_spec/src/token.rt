@@ -122,22 +122,22 @@ fn number_at(is_negative: bool, text: &[u8]) -> Option<(Token, &[u8])>
 #[tactic(auto, unfolding(crate::specs::Tokens::token_at))]
 /// The token at the front, which is no blank, and what follows it.
 fn token_at(text: &[u8]) -> Option<(Token, &[u8])>
-    ensures found { option_map (λ found. (found.0, found.1.now)) result ≡ token_at text.now }
+    ensures { option_map (λ found. (found.0, found.1.now)) result ≡ token_at text.now }
 {
-    match text {
-        [] => None,
-        [b'-', after @ ..] => number_at(true, after),
-        [first, after @ ..] => {
-            if is_letter(*first) {
-                word_at(text)
-            } else if first.is_ascii_digit() {
-                number_at(false, text)
-            } else {
-                match sign_of(*first) {
-                    None => None,
-                    Some(sign) => Some((sign, after)),
-                }
-            }
+    if text.is_empty() {
+        return None;
+    }
+    let first = text[0];
+    if first == b'-' {
+        number_at(true, text.split_at(1).1)
+    } else if is_letter(first) {
+        word_at(text)
+    } else if first.is_ascii_digit() {
+        number_at(false, text)
+    } else {
+        match sign_of(first) {
+            None => None,
+            Some(sign) => Some((sign, text.split_at(1).1)),
         }
     }
 }
@@ -148,15 +148,15 @@ pub(crate) fn tokens(alloc: Global, text: &[u8]) -> Result<Option<Items<Token>>,
 {
     let mut tokens = Items::new(alloc);
     let mut rest = text;
-    while let [first, after @ ..] = rest {
-        if is_blank(*first) {
-            rest = after;
+    while !rest.is_empty() {
+        if is_blank(rest[0]) {
+            rest = rest.split_at(1).1;
         } else {
             match token_at(rest) {
                 None => return Ok(None),
-                Some((token, left)) => {
+                Some((token, after)) => {
                     tokens.push(token)?;
-                    rest = left;
+                    rest = after;
                 }
             }
         }

@@ -2,3 +2,4 @@ pub mod Counts
 pub mod Words
 pub mod Tokens
 pub mod Options
+pub mod Meaning

@@ -74,11 +74,19 @@ setting_at _ = None
 abbrev pub settings_before : List Setting → Option (List Setting × List Token) → Option (List Setting × List Token)
 settings_before front = option_map (λ f. (front ++ f.0, f.1))
 
+-- what follows the end of an element
+abbrev pub after_end : List Token → Option (List Token)
+after_end (t.Slash ∷ t.Greater ∷ ts) = Some ts
+after_end _ = None
+
+abbrev pub ended_or : Option (List Token) → Option (List Setting × List Token) → Option (List Setting × List Token)
+ended_or (Some rest) more = Some ([], rest)
+ended_or None more = more
+
 -- options up to the end of the element, at most n of them, and the tokens after it
 abbrev pub settings_within : ℕ → List Token → Option (List Setting × List Token)
-settings_within n (t.Slash ∷ t.Greater ∷ ts) = Some ([], ts)
-settings_within zero _ = None
-settings_within (suc n) ts = option_and_then (λ f. settings_before (f.0 ∷ []) (settings_within n f.1)) (setting_at ts)
+settings_within zero ts = ended_or (after_end ts) None
+settings_within (suc n) ts = ended_or (after_end ts) (option_and_then (λ f. settings_before (f.0 ∷ []) (settings_within n f.1)) (setting_at ts))
 
 unfoldable pub settings_of : List Token → Option (List Setting × List Token)
 settings_of ts = settings_within (length ts) ts

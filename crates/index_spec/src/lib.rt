@@ -1,6 +1,7 @@
 //! Index specifications.
 #![tactic(auto)]
 
+mod meaning;
 mod options;
 mod spec;
 mod token;

@@ -2,7 +2,7 @@
 
 ghost use Rattle.std.specs.Prelude.{◌≡◌, IfOk};
 ghost use Rattle.std.specs.Option.{option_map};
-ghost use Rattle.index_spec.specs.Options.{value_at, numbers_at};
+ghost use Rattle.index_spec.specs.Options.{value_at, numbers_at, setting_at, after_end, settings_of, plain, element_at, form_of};
 
 use crate::token::Token;
 use crate::word::Word;
@@ -63,5 +63,88 @@ fn value_at(alloc: Global, tokens: &[Token]) -> Result<Option<(Value, &[Token])>
             Some((numbers, after)) => Ok(Some((Value::Numbers(numbers), after))),
         },
         _ => Ok(Some((Value::Nothing, tokens))),
+    }
+}
+
+/// The option at the front.
+#[tactic(auto, unfolding(crate::specs::Options::setting_at))]
+fn setting_at(alloc: Global, tokens: &[Token]) -> Result<Option<(Setting, &[Token])>, AllocError>
+    ensures { IfOk result (λ found. option_map (λ f. (f.0, f.1.now)) found ≡ setting_at tokens.now) }
+{
+    match tokens {
+        [Token::Word(name), after @ ..] => match value_at(alloc, after)? {
+            None => Ok(None),
+            Some((value, rest)) => Ok(Some((Setting { name: *name, value }, rest))),
+        },
+        _ => Ok(None),
+    }
+}
+
+/// What follows `/>`, where it is at the front.
+fn after_end(tokens: &[Token]) -> Option<&[Token]>
+    ensures { option_map (λ rest. rest.now) result ≡ after_end tokens.now }
+{
+    match tokens {
+        [Token::Slash, Token::Greater, rest @ ..] => Some(rest),
+        _ => None,
+    }
+}
+
+/// The options up to `/>`, and what follows it.
+fn settings_of(alloc: Global, tokens: &[Token]) -> Result<Option<(Items<Setting>, &[Token])>, AllocError>
+    ensures { IfOk result (λ found. option_map (λ f. (f.0, f.1.now)) found ≡ settings_of tokens.now) }
+{
+    let mut settings = Items::new(alloc);
+    let mut rest = tokens;
+    loop {
+        if let Some(after) = after_end(rest) {
+            return Ok(Some((settings, after)));
+        }
+        match setting_at(alloc, rest)? {
+            None => return Ok(None),
+            Some((setting, after)) => {
+                settings.push(setting)?;
+                rest = after;
+            }
+        }
+    }
+}
+
+/// An option that is its word alone.
+fn plain(alloc: Global, name: Word) -> Result<Items<Setting>, AllocError>
+    ensures { IfOk result (λ settings. settings ≡ plain name) }
+{
+    let mut settings = Items::new(alloc);
+    settings.push(Setting {
+        name,
+        value: Value::Nothing,
+    })?;
+    Ok(settings)
+}
+
+/// The options of the element of this name, if it is at the front, and what follows it.
+#[tactic(auto, unfolding(crate::specs::Options::element_at))]
+fn element_at(alloc: Global, name: Word, default: Word, tokens: &[Token]) -> Result<Option<(Items<Setting>, &[Token])>, AllocError>
+    ensures { IfOk result (λ found. option_map (λ f. (f.0, f.1.now)) found ≡ element_at name default tokens.now) }
+{
+    if let [Token::Less, Token::Word(word), after @ ..] = tokens {
+        if word.is(name) {
+            return settings_of(alloc, after);
+        }
+    }
+    Ok(Some((plain(alloc, default)?, tokens)))
+}
+
+/// The options of both elements, None where the tokens aren't two elements.
+#[tactic(auto, unfolding(crate::specs::Options::form_of))]
+pub(crate) fn form_of(alloc: Global, tokens: &[Token]) -> Result<Option<Form>, AllocError>
+    ensures { IfOk result (λ found. found ≡ form_of tokens.now) }
+{
+    match element_at(alloc, Word::Binning, Word::Each, tokens)? {
+        None => Ok(None),
+        Some((binning, rest)) => match element_at(alloc, Word::Encoding, Word::Equality, rest)? {
+            Some((encoding, [])) => Ok(Some(Form { binning, encoding })),
+            _ => Ok(None),
+        },
     }
 }

@@ -2,3 +2,4 @@ pub mod Cases
 pub mod Numbers
 pub mod Shorter
 pub mod Lexing
+pub mod Elements

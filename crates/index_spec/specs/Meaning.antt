@@ -49,9 +49,15 @@ has name = list_any (λ s. same_word s.name name)
 abbrev pub is_among : Word → List Word → Bool
 is_among name = list_any (λ n. same_word name n)
 
+abbrev pub are_among : List Word → List Setting → Bool
+are_among names = list_all (λ s. is_among s.name names)
+
+abbrev pub has_all : List Word → List Setting → Bool
+has_all names settings = list_all (λ n. has n settings) names
+
 -- the options are these, in any order, repeats left aside
 abbrev pub is_set : List Word → List Setting → Bool
-is_set names settings = list_all (λ s. is_among s.name names) settings && list_all (λ n. has n settings) names
+is_set names settings = are_among names settings && has_all names settings
 
 -- how often an option stands
 abbrev pub times : Word → List Setting → ℕ

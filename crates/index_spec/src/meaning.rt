@@ -2,7 +2,8 @@
 
 ghost use Rattle.std.specs.Prelude.{◌≡◌, IfOk};
 ghost use Rattle.std.specs.Option.{option_copied};
-ghost use Rattle.index_spec.specs.Meaning.{fits, all_fit, has, is_among, is_set, lookup, number_named, numbers_named, coarse_named, within, draft_binning, draft_encoding, draft, repeats, outside, has_outside, any_outside, is_counted, rises, is_bounded, meaning};
+ghost use Rattle.std.specs.List.{list_any};
+ghost use Rattle.index_spec.specs.Meaning.{fits, all_fit, has, is_among, are_among, has_all, is_set, lookup, number_named, numbers_named, coarse_named, within, draft_binning, draft_encoding, draft, repeats, outside, has_outside, any_outside, is_counted, rises, is_bounded, meaning};
 
 use crate::options::{Form, Setting, Value};
 use crate::spec::{Binning, Coarse, EncodingSpec, Spec, SpecKind};
@@ -48,11 +49,23 @@ fn is_among(name: Word, names: &[Word]) -> bool
     names.iter().any(|n| name.is(*n))
 }
 
+fn are_among(settings: &[Setting], names: &[Word]) -> bool
+    ensures { result ≡ are_among names.now settings.now }
+{
+    settings.iter().all(|s| is_among(s.name, names))
+}
+
+fn has_all(settings: &[Setting], names: &[Word]) -> bool
+    ensures { result ≡ has_all names.now settings.now }
+{
+    names.iter().all(|n| has(settings, *n))
+}
+
 /// Whether the options are these, in any order.
 fn is_set(names: &[Word], settings: &[Setting]) -> bool
     ensures { result ≡ is_set names.now settings.now }
 {
-    settings.iter().all(|s| is_among(s.name, names)) && names.iter().all(|n| has(settings, *n))
+    are_among(settings, names) && has_all(settings, names)
 }
 
 /// Whether an option stands twice.
@@ -183,12 +196,18 @@ fn outside(number: i128) -> bool
     number < LEAST || number > GREATEST
 }
 
+fn is_any_outside(numbers: &[i128]) -> bool
+    ensures { result ≡ list_any outside numbers.now }
+{
+    numbers.iter().any(|n| outside(*n))
+}
+
 fn has_outside(setting: &Setting) -> bool
     ensures { result ≡ has_outside setting.now.value }
 {
     match &setting.value {
         Value::Number(number) => outside(*number),
-        Value::Numbers(numbers) => numbers.as_slice().iter().any(|n| outside(*n)),
+        Value::Numbers(numbers) => is_any_outside(numbers.as_slice()),
         _ => false,
     }
 }

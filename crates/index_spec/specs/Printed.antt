@@ -9,11 +9,15 @@ use Rattle.index_spec.specs.declared.spec.EncodingSpec.{EncodingSpec}
 use Rattle.index_spec.specs.declared.spec.EncodingSpec.TheVariants as encoding
 use Rattle.index_spec.specs.declared.spec.Spec.{Spec}
 
+-- a comma before each
+abbrev pub comma_each : List ℤ → List ℕ
+comma_each [] = []
+comma_each (n ∷ more) = codes "," ++ (signed_decimal n ++ comma_each more)
+
 -- with commas between
 abbrev pub joined : List ℤ → List ℕ
 joined [] = []
-joined (n ∷ []) = signed_decimal n
-joined (n ∷ m ∷ more) = signed_decimal n ++ (codes "," ++ joined (m ∷ more))
+joined (n ∷ more) = signed_decimal n ++ comma_each more
 
 unfoldable pub printed_binning : Binning → List ℕ
 printed_binning binning.Each = codes "none"

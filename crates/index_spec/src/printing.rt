@@ -2,25 +2,33 @@
 
 ghost use Rattle.std.specs.Prelude.{◌≡◌, ◌++◌, IfOk, OnOk};
 ghost use Rattle.std.specs.String.{string_bytes};
-ghost use Rattle.index_spec.specs.Printed.{joined, printed_binning, coarse_text, printed_encoding, printed};
+ghost use Rattle.index_spec.specs.Printed.{comma_each, joined, printed_binning, coarse_text, printed_encoding, printed};
 
 use crate::spec::{Binning, Coarse, EncodingSpec, Spec};
 use std::alloc::{AllocError, Global};
 use std::fmt::Write;
 
-/// The numbers with commas between, of which there is at least one.
+/// The numbers, a comma before each.
+fn push_more(out: &mut String, numbers: &[i128]) -> Result<(), AllocError>
+    ensures { OnOk result (string_bytes out.new ≡ string_bytes out.old ++ comma_each numbers.now) }
+{
+    for number in numbers {
+        write!(out, ",{number}")?;
+    }
+    Ok(())
+}
+
+/// The numbers with commas between.
 fn push_numbers(out: &mut String, numbers: &[i128]) -> Result<(), AllocError>
     ensures { OnOk result (string_bytes out.new ≡ string_bytes out.old ++ joined numbers.now) }
 {
-    let mut is_first = true;
-    for number in numbers {
-        if !is_first {
-            out.push_str(",")?;
+    match numbers {
+        [] => Ok(()),
+        [first, rest @ ..] => {
+            write!(out, "{first}")?;
+            push_more(out, rest)
         }
-        write!(out, "{number}")?;
-        is_first = false;
     }
-    Ok(())
 }
 
 #[tactic(auto, unfolding(crate::specs::Printed::printed_binning))]

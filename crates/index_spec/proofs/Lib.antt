@@ -3,3 +3,5 @@ pub mod Numbers
 pub mod Shorter
 pub mod Lexing
 pub mod Elements
+pub mod Runs
+pub mod Spelled

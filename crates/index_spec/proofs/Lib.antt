@@ -5,3 +5,4 @@ pub mod Lexing
 pub mod Elements
 pub mod Runs
 pub mod Spelled
+pub mod Reread

@@ -6,3 +6,4 @@ pub mod Elements
 pub mod Runs
 pub mod Spelled
 pub mod Reread
+pub mod Formed

@@ -7,3 +7,4 @@ pub mod Runs
 pub mod Spelled
 pub mod Reread
 pub mod Formed
+pub mod Reformed

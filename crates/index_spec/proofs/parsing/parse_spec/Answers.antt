@@ -1,5 +1,6 @@
 use Rattle.std.proofs.Common.{◌≡◌}
 use Rattle.index_spec.proofs.Spelled.{tokens_of-spelled}
+use Rattle.index_spec.proofs.Reformed.{formed-form_of}
 use Rattle.index_spec.proofs.Formed.{form_of-formed}
 use Rattle.index_spec.proofs.Reread.{spelled-tokens_of}
 use Rattle.index_spec.proofs.parsing.parse_spec.Goals as goal

@@ -8,3 +8,5 @@ pub mod Spelled
 pub mod Reread
 pub mod Formed
 pub mod Reformed
+pub mod Members
+pub mod Sets

@@ -10,3 +10,5 @@ pub mod Formed
 pub mod Reformed
 pub mod Members
 pub mod Sets
+pub mod Told
+pub mod Retold

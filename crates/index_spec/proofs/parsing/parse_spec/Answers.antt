@@ -1,5 +1,7 @@
 use Rattle.std.proofs.Common.{◌≡◌}
 use Rattle.index_spec.proofs.Spelled.{tokens_of-spelled}
+use Rattle.index_spec.proofs.Retold.{binning_read}
+use Rattle.index_spec.proofs.Told.{meaning-told}
 use Rattle.index_spec.proofs.Sets.{in_set}
 use Rattle.index_spec.proofs.Members.{found_once}
 use Rattle.index_spec.proofs.Reformed.{formed-form_of}

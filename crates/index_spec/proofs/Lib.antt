@@ -12,3 +12,4 @@ pub mod Members
 pub mod Sets
 pub mod Told
 pub mod Retold
+pub mod Laws

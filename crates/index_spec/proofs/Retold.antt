@@ -155,3 +155,74 @@ binning_read (binning.Precision digits) ss options given =
     let outside_none : any_outside wanted ≡ false = rw oc refl in
     let counts : within 18 (number_named w.Precision ss) ≡ digits = ap (within 18) vc ∙ within-small 18 digits given.1 in
     record { tidy = tidy ss wanted options refl outside_none; draft = rw (one, two, three, four, five) (ap (λ x. Some (binning.Precision x)) counts); counted = positive digits given.0; bounded = refl }
+
+-- ---- encoding
+
+pub record EncodingRead (ss : List Setting) (e : EncodingSpec) : Type 0 where
+  pub tidy : Tidy ss
+  pub draft : draft_encoding ss ≡ Some e
+  pub counted : is_encoding_counted e ≡ true
+
+level_again : (level : Coarse) → coarse_in (Some (v.Word (coarse_word level))) ≡ level
+level_again coarse.Equality = refl
+level_again coarse.Range = refl
+level_again coarse.Interval = refl
+
+level_fits : (level : Coarse) → fits w.Coarse (v.Word (coarse_word level)) ≡ true
+level_fits coarse.Equality = refl
+level_fits coarse.Range = refl
+level_fits coarse.Interval = refl
+
+pub encoding_read : (e : EncodingSpec) (ss : List Setting) → HasOptions (encoding_options e) ss → IsGivenEncoding e → EncodingRead ss e
+unfolding draft_encoding
+encoding_read encoding.Equality ss options given =
+    let one : is_set (w.Equality ∷ []) ss ≡ true = same_set (w.Equality ∷ []) ss (plain w.Equality) options.same in
+    record { tidy = tidy ss (plain w.Equality) options refl refl; draft = rw one refl; counted = refl }
+encoding_read encoding.Range ss options given =
+    let one : is_set (w.Equality ∷ []) ss ≡ false = same_set (w.Equality ∷ []) ss (plain w.Range) options.same in
+    let two : is_set (w.Range ∷ []) ss ≡ true = same_set (w.Range ∷ []) ss (plain w.Range) options.same in
+    record { tidy = tidy ss (plain w.Range) options refl refl; draft = rw (one, two) refl; counted = refl }
+encoding_read encoding.Interval ss options given =
+    let one : is_set (w.Equality ∷ []) ss ≡ false = same_set (w.Equality ∷ []) ss (plain w.Interval) options.same in
+    let two : is_set (w.Range ∷ []) ss ≡ false = same_set (w.Range ∷ []) ss (plain w.Interval) options.same in
+    let three : is_set (w.Interval ∷ []) ss ≡ true = same_set (w.Interval ∷ []) ss (plain w.Interval) options.same in
+    record { tidy = tidy ss (plain w.Interval) options refl refl; draft = rw (one, two, three) refl; counted = refl }
+encoding_read (encoding.TwoLevel level count) ss options given =
+    let a : Setting = record { name = w.TwoLevel; value = v.Nothing } in
+    let b : Setting = record { name = w.Coarse; value = v.Word (coarse_word level) } in
+    let c : Setting = option w.Ncoarse (pos count) in
+    let wanted : List Setting = a ∷ b ∷ c ∷ [] in
+    let one : is_set (w.Equality ∷ []) ss ≡ false = same_set (w.Equality ∷ []) ss wanted options.same in
+    let two : is_set (w.Range ∷ []) ss ≡ false = same_set (w.Range ∷ []) ss wanted options.same in
+    let three : is_set (w.Interval ∷ []) ss ≡ false = same_set (w.Interval ∷ []) ss wanted options.same in
+    let four : is_set (w.TwoLevel ∷ w.Coarse ∷ w.Ncoarse ∷ []) ss ≡ true = same_set (w.TwoLevel ∷ w.Coarse ∷ w.Ncoarse ∷ []) ss wanted options.same in
+    let vb : coarse_named w.Coarse ss ≡ level = ap coarse_in (looked_up ss wanted b options (later a (b ∷ c ∷ []) b (here b (c ∷ [])))) ∙ level_again level in
+    let vc : number_named w.Ncoarse ss ≡ pos count = ap number_in (looked_up ss wanted c options (later a (b ∷ c ∷ []) c (later b (c ∷ []) c (here c [])))) in
+    let oc : outside (pos count) ≡ false = small_number count given.1 in
+    let outside_none : any_outside wanted ≡ false = rw oc refl in
+    let fit : all_fit wanted ≡ true = (let fb : fits w.Coarse (v.Word (coarse_word level)) ≡ true = level_fits level in rw fb refl) in
+    let counts : within 100000 (number_named w.Ncoarse ss) ≡ count = ap (within 100000) vc ∙ within-small 100000 count given.1 in
+    record { tidy = tidy ss wanted options fit outside_none;
+      draft = rw (one, two, three, four) (ap (λ x. Some (encoding.TwoLevel x (within 100000 (number_named w.Ncoarse ss)))) vb ∙ ap (λ x. Some (encoding.TwoLevel level x)) counts);
+      counted = positive count given.0 }
+
+-- ---- the form
+
+pub told-meaning : (f : Form) (s : Spec) → HasOptions (binning_options s.binning) f.binning → HasOptions (encoding_options s.encoding) f.encoding → IsGiven s → meaning f ≡ Ok s
+unfolding meaning draft
+told-meaning f s binning_has encoding_has given =
+    let b = binning_read s.binning f.binning binning_has given.0 in
+    let e = encoding_read s.encoding f.encoding encoding_has given.1 in
+    let fb : all_fit f.binning ≡ true = b.tidy.fit in
+    let fe : all_fit f.encoding ≡ true = e.tidy.fit in
+    let db : draft_binning f.binning ≡ Some s.binning = b.draft in
+    let de : draft_encoding f.encoding ≡ Some s.encoding = e.draft in
+    let rb : repeats f.binning ≡ false = b.tidy.single in
+    let re : repeats f.encoding ≡ false = e.tidy.single in
+    let ob : any_outside f.binning ≡ false = b.tidy.small in
+    let oe : any_outside f.encoding ≡ false = e.tidy.small in
+    let cb : is_binning_counted s.binning ≡ true = b.counted in
+    let ce : is_encoding_counted s.encoding ≡ true = e.counted in
+    let bb : is_bounded s.binning ≡ true = b.bounded in
+    let drafted : draft f ≡ Some s = rw (fb, fe, db, de) refl in
+    ap (verdict f) drafted ∙ rw (rb, re, ob, oe, cb, ce, bb) refl

@@ -1,5 +1,5 @@
 -- The answer for a text, by what the text spells.
-use Rattle.std.proofs.Common.{◌≡◌, ℕ, ◌≤◌, ◌<◌, Bool, true, false, cond, List, length, refl, sym, ap, subst, ◌∙◌, arith, ltb}
+use Rattle.std.proofs.Common.{◌≡◌, ℕ, ◌≤◌, ◌<◌, Bool, true, false, cond, not, ◌||◌, List, length, refl, sym, ap, subst, ◌∙◌, inl, inr, arith, ltb}
 use Rattle.std.specs.Prelude.{Option, Some, None, Result, Ok, Err, nat_lt}
 use Rattle.std.specs.Option.{option_and_then}
 use Rattle.std.proofs.lemmas.Bool.Decides.{nat_tests}
@@ -12,8 +12,8 @@ use Rattle.index_spec.specs.declared.spec.SpecFault.{SpecFault}
 use Rattle.index_spec.specs.declared.spec.SpecFault.TheVariants as fault
 use Rattle.index_spec.specs.Tokens.{tokens_of, Spells}
 use Rattle.index_spec.specs.Options.{form_of, IsForm}
-use Rattle.index_spec.specs.Meaning.{meaning}
-use Rattle.index_spec.specs.Language.{IsSpelledBy, IsGiven, answer_by, spec_of, Gives}
+use Rattle.index_spec.specs.Meaning.{meaning, verdict, checked, draft, repeats, any_outside, is_counted, is_bounded}
+use Rattle.index_spec.specs.Language.{IsSpelledBy, IsGiven, answer_by, spec_of, Gives, IsToldByText}
 use Rattle.index_spec.proofs.Cases.{chosen, chained}
 use Rattle.index_spec.proofs.Spelled.{tokens_of-spelled}
 use Rattle.index_spec.proofs.Reread.{spelled-tokens_of}
@@ -74,3 +74,59 @@ spelled-spec_of text s e = by_length text (nat_lt 131072 (length text)) s refl e
 
 pub gives_along : (r : Result Spec SpecFault) (a b : Result Spec SpecKind) → Gives r a → a ≡ b → Gives r b
 gives_along r a b gives e = subst (Gives r) e gives
+
+-- ---- which refusals come
+
+-- a refusal of a form
+abbrev IsOfForm : Result Spec SpecKind → Type 0
+IsOfForm (Err kind.TooLong) = ⊥
+IsOfForm (Err kind.Unknown) = ⊥
+IsOfForm (Err kind.WrongType) = ⊥
+IsOfForm _ = Unit {0}
+
+either : (test : Bool) (a b : Result Spec SpecKind) → IsOfForm a → IsOfForm b → IsOfForm (cond test a b)
+either true a b ha hb = ha
+either false a b ha hb = hb
+
+checked_kind : (f : Form) (s : Spec) → IsOfForm (checked f s)
+checked_kind f s =
+    either (repeats f.binning || repeats f.encoding) (Err kind.Repeated) _ tt
+        (either (any_outside f.binning || any_outside f.encoding) (Err kind.Number) _ tt
+            (either (not (is_counted s)) (Err kind.Count) _ tt
+                (either (not (is_bounded s.binning)) (Err kind.Bounds) (Ok s) tt tt)))
+
+verdict_kind : (f : Form) (o : Option Spec) → IsOfForm (verdict f o)
+verdict_kind f None = tt
+verdict_kind f (Some s) = checked_kind f s
+
+answer_kind : (o : Option Form) → IsOfForm (answer_by o)
+unfolding meaning
+answer_kind None = tt
+answer_kind (Some f) = verdict_kind f (draft f)
+
+too_long_at : (text : List ℕ) (test : Bool) → nat_lt 131072 (length text) ≡ test → cond test (Err kind.TooLong) (answer_by (option_and_then form_of (tokens_of text))) ≡ Err kind.TooLong → 131072 < length text
+too_long_at text true e told = grind (arith, nat_tests)
+too_long_at text false e told = absurd (subst IsOfForm told (answer_kind (option_and_then form_of (tokens_of text))))
+
+pub spec_of-too_long : (text : List ℕ) → spec_of text ≡ Err kind.TooLong → 131072 < length text
+unfolding spec_of
+spec_of-too_long text e = too_long_at text (nat_lt 131072 (length text)) refl e
+
+abbrev IsTold : Result Spec SpecKind → Type 0
+IsTold (Err k) = IsToldByText (fault.Bad k)
+IsTold (Ok s) = Unit {0}
+
+told_of_form : (r : Result Spec SpecKind) → IsOfForm r → IsTold r
+told_of_form (Err kind.TooLong) h = tt
+told_of_form (Err kind.Unknown) h = h
+told_of_form (Err kind.WrongType) h = h
+told_of_form (Err _) h = tt
+told_of_form (Ok s) h = tt
+
+told_at : (test : Bool) (o : Option Form) → IsTold (cond test (Err kind.TooLong) (answer_by o))
+told_at true o = tt
+told_at false o = told_of_form (answer_by o) (answer_kind o)
+
+pub spec_of-told : (text : List ℕ) (k : SpecKind) → spec_of text ≡ Err k → IsToldByText (fault.Bad k)
+unfolding spec_of
+spec_of-told text k e = subst IsTold e (told_at (nat_lt 131072 (length text)) (option_and_then form_of (tokens_of text)))

@@ -102,3 +102,9 @@ abbrev pub Gives : Result Spec SpecFault → Result Spec SpecKind → Type 0
 Gives (Ok s) answer = answer ≡ Ok s
 Gives (Err fault.OutOfMemory) answer = Unit {0}
 Gives (Err (fault.Bad kind)) answer = answer ≡ Err kind
+
+-- a refusal that a text can have
+abbrev pub IsToldByText : SpecFault → Type 0
+IsToldByText (fault.Bad kind.Unknown) = ⊥
+IsToldByText (fault.Bad kind.WrongType) = ⊥
+IsToldByText _ = Unit {0}

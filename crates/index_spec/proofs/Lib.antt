@@ -13,3 +13,5 @@ pub mod Sets
 pub mod Told
 pub mod Retold
 pub mod Laws
+pub mod Put
+pub mod Again

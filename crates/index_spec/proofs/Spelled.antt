@@ -115,7 +115,7 @@ token_cuts (b ∷ bs) found e =
         | inr f ↦ sign_cuts b bs found f.1 ] ] ]
 
 -- a blank before a text leaves its tokens
-blank_before : (b : ℕ) (bs : List ℕ) (ts : List Token) → is_blank b ≡ true → Spells bs ts → Spells (b ∷ bs) ts
+pub blank_before : (b : ℕ) (bs : List ℕ) (ts : List Token) → is_blank b ≡ true → Spells bs ts → Spells (b ∷ bs) ts
 blank_before b bs [] blank spells = and_both (is_blank b) (list_all is_blank bs) blank spells
 blank_before b bs (token ∷ ts) blank spells =
     let at = spells.1.0 in

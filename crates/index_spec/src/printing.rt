@@ -1,7 +1,8 @@
 //! The one printed form of a specification.
 
-ghost use Rattle.std.specs.Prelude.{◌≡◌, ◌++◌, IfOk, OnOk};
+ghost use Rattle.std.specs.Prelude.{◌≡◌, ◌++◌, ◌≤◌, length, IfOk, OnOk, Ok};
 ghost use Rattle.std.specs.String.{string_bytes};
+ghost use Rattle.index_spec.specs.Language.{spec_of, IsGiven, IsSpelledBy};
 ghost use Rattle.index_spec.specs.Printed.{comma_each, joined, printed_binning, coarse_text, printed_encoding, printed};
 
 use crate::spec::{Binning, Coarse, EncodingSpec, Spec};
@@ -75,8 +76,8 @@ fn push_encoding(out: &mut String, encoding: EncodingSpec) -> Result<(), AllocEr
 }
 
 #[tactic(auto, unfolding(crate::specs::Printed::printed))]
-/// The printed form: both elements, their options in a fixed order with one blank between.
-pub fn print_spec(alloc: Global, spec: &Spec) -> Result<Vec<u8>, AllocError>
+/// Both elements, their options in a fixed order with one blank between.
+fn print(alloc: Global, spec: &Spec) -> Result<Vec<u8>, AllocError>
     ensures { IfOk result (λ text. text.items ≡ printed spec.now) }
 {
     let mut out = String::new(alloc);
@@ -86,4 +87,16 @@ pub fn print_spec(alloc: Global, spec: &Spec) -> Result<Vec<u8>, AllocError>
     push_encoding(&mut out, spec.encoding)?;
     out.push_str("/>")?;
     Ok(out.into_bytes())
+}
+
+/// The printed form of a specification, which index files carry. `parse_spec` of it gives the same specification.
+pub fn print_spec(alloc: Global, spec: &Spec) -> Result<Vec<u8>, AllocError>
+    ensures text { IfOk result (λ text. text.items ≡ printed spec.now) }
+
+    // For each specification that the grammar gives.
+    ensures read_again { IsGiven spec.now → spec_of (printed spec.now) ≡ Ok spec.now }
+    ensures spelled { IsGiven spec.now → IsSpelledBy spec.now (printed spec.now) }
+    ensures short { IsGiven spec.now → length (printed spec.now) ≤ 131072 }
+{
+    print(alloc, spec)
 }

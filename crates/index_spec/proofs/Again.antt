@@ -1,8 +1,7 @@
 -- The printed form of a specification that the grammar gives is spelled as it.
-use Rattle.std.proofs.Common.{◌≡◌, ℕ, zero, suc, ◌+◌, ◌*◌, ◌-◌, ◌^◌, ◌≤◌, ◌<◌, Bool, true, false, cond, List, [], ◌∷◌, ◌++◌, length, refl, sym, ap, subst, ◌∙◌, inl, inr, append_assoc, append-nil, length-append, arith, rules, ℤ, pos, negsuc}
-use Rattle.std.specs.Prelude.{◌≤ℤ◌, codes}
-use Rattle.std.specs.List.{AllByRecursion, flat_map, count_by}
-use Rattle.std.specs.Char.{is_ascii_digit}
+use Rattle.std.proofs.Common.{◌≡◌, ℕ, ◌+◌, ◌*◌, ◌≤◌, ◌<◌, Bool, true, false, cond, List, [], ◌∷◌, ◌++◌, length, refl, sym, ap, subst, ◌∙◌, inl, append_assoc, append-nil, length-append, arith, ℤ, pos}
+use Rattle.std.specs.Prelude.{codes}
+use Rattle.std.specs.List.{AllByRecursion, flat_map}
 use Rattle.std.specs.Fmt.{decimal, signed_decimal}
 use Rattle.index_spec.specs.declared.word.Word.{Word}
 use Rattle.index_spec.specs.declared.word.Word.TheVariants as w
@@ -18,11 +17,11 @@ use Rattle.index_spec.specs.declared.spec.EncodingSpec.{EncodingSpec}
 use Rattle.index_spec.specs.declared.spec.EncodingSpec.TheVariants as encoding
 use Rattle.index_spec.specs.declared.spec.Spec.{Spec}
 use Rattle.index_spec.specs.Words.{spelling, same_word}
-use Rattle.index_spec.specs.Tokens.{in_word, StopsAt, Spells}
-use Rattle.index_spec.specs.Options.{separated, value_tokens, setting_tokens, element_tokens, plain, IsForm}
+use Rattle.index_spec.specs.Tokens.{Spells}
+use Rattle.index_spec.specs.Options.{separated, setting_tokens, element_tokens}
 use Rattle.index_spec.specs.Meaning.{times}
 use Rattle.index_spec.specs.Printed.{comma_each, joined, printed_binning, coarse_text, printed_encoding, printed}
-use Rattle.index_spec.specs.Language.{option, IsInRange, IsGivenBinning, IsGivenEncoding, IsGiven, binning_options, coarse_word, encoding_options, HasOptions, IsSpelledBy}
+use Rattle.index_spec.specs.Language.{IsInRange, IsGivenBinning, IsGivenEncoding, IsGiven, binning_options, coarse_word, encoding_options, IsSpelledBy}
 use Rattle.index_spec.proofs.Put.{put, put_blank, put_number, put_number_in, count_in_range, length-number}
 
 -- ---- lists of bounds
@@ -32,7 +31,7 @@ list_spelled n [] rest ts range spells = put_number_in n [] (41 ∷ rest) (t.Clo
 list_spelled n (m ∷ ms) rest ts range spells =
     let others = list_spelled m ms rest ts range.1 spells in
     put_number_in n (comma_each (m ∷ ms)) (41 ∷ rest) (t.Comma ∷ (separated (m ∷ ms) ++ (t.Close ∷ ts))) range.0 refl
-        (put t.Comma (44 ∷ []) ((signed_decimal m ++ comma_each ms) ++ (41 ∷ rest)) (separated (m ∷ ms) ++ (t.Close ∷ ts)) refl tt others)
+    (put t.Comma (44 ∷ []) ((signed_decimal m ++ comma_each ms) ++ (41 ∷ rest)) (separated (m ∷ ms) ++ (t.Close ∷ ts)) refl tt others)
 
 joined_spelled : (bounds : List ℤ) (rest : List ℕ) (ts : List Token) → 0 < length bounds → AllByRecursion IsInRange bounds → Spells (41 ∷ rest) (t.Close ∷ ts) → Spells (joined bounds ++ (41 ∷ rest)) (separated bounds ++ (t.Close ∷ ts))
 joined_spelled [] rest ts some range spells = absurd (omega arith)
@@ -63,7 +62,7 @@ bounds_spelled bounds rest ts some range spells =
     let flat : ((separated bounds ++ (t.Close ∷ [])) ++ []) ++ ts ≡ separated bounds ++ (t.Close ∷ ts) = ap (λ x. x ++ ts) (append-nil (separated bounds ++ (t.Close ∷ []))) ∙ tokens in
     let text : (joined bounds ++ (41 ∷ [])) ++ (47 ∷ rest) ≡ joined bounds ++ (41 ∷ (47 ∷ rest)) = append_assoc (joined bounds) (41 ∷ []) (47 ∷ rest) in
     subst (λ x. Spells (spelling w.Bounds ++ (61 ∷ (40 ∷ x))) (flat_map setting_tokens (binning_options (binning.Bounds bounds)) ++ ts)) (sym text)
-        (subst (λ x. Spells (spelling w.Bounds ++ (61 ∷ (40 ∷ (joined bounds ++ (41 ∷ (47 ∷ rest)))))) (t.Word w.Bounds ∷ (t.Equals ∷ (t.Open ∷ x)))) (sym flat) all)
+    (subst (λ x. Spells (spelling w.Bounds ++ (61 ∷ (40 ∷ (joined bounds ++ (41 ∷ (47 ∷ rest)))))) (t.Word w.Bounds ∷ (t.Equals ∷ (t.Open ∷ x)))) (sym flat) all)
 
 width_spelled : (start end : ℤ) (count : ℕ) (rest : List ℕ) (ts : List Token) → IsInRange start → IsInRange end → count ≤ 100000 → Spells (47 ∷ rest) ts
     → Spells (printed_binning (binning.Width start end count) ++ (47 ∷ rest)) (flat_map setting_tokens (binning_options (binning.Width start end count)) ++ ts)
@@ -249,4 +248,5 @@ printed-spelled s given = record {
   binning = record { same = λ x. (λ h. h, λ h. h); once = binning_once s.binning };
   encoding = record { same = λ x. (λ h. h, λ h. h); once = encoding_once s.encoding };
   given = given;
-  fits = length-printed s given }
+  fits = length-printed s given;
+}

@@ -1,14 +1,13 @@
 -- Options, one step at a time.
-use Rattle.std.proofs.Common.{◌≡◌, ℕ, zero, suc, ◌+◌, ◌-◌, ◌≤◌, ◌<◌, Bool, true, false, cond, List, [], ◌∷◌, ◌++◌, length, refl, sym, ap, ◌∙◌, append_assoc, append-nil, arith, ℤ}
+use Rattle.std.proofs.Common.{◌≡◌, ℕ, zero, suc, ◌≤◌, ◌<◌, List, [], ◌∷◌, ◌++◌, length, refl, sym, ap, ◌∙◌, append_assoc, append-nil, arith, ℤ}
 use Rattle.std.specs.Prelude.{Option, Some, None}
-use Rattle.std.specs.Option.{option_map, option_and_then}
-use Rattle.index_spec.specs.declared.word.Word.{Word}
+use Rattle.std.specs.Option.{option_and_then}
 use Rattle.index_spec.specs.declared.token.Token.{Token}
 use Rattle.index_spec.specs.declared.token.Token.TheVariants as t
 use Rattle.index_spec.specs.declared.options.Value.{Value}
 use Rattle.index_spec.specs.declared.options.Value.TheVariants as v
 use Rattle.index_spec.specs.declared.options.Setting.{Setting}
-use Rattle.index_spec.specs.Options.{numbers_at, numbers_before, value_at, setting_at, settings_before, after_end, ended_or, settings_within, settings_of}
+use Rattle.index_spec.specs.Options.{numbers_at, value_at, setting_at, settings_before, after_end, ended_or, settings_within, settings_of}
 use Rattle.index_spec.proofs.Cases.{mapped}
 
 -- a list of numbers has tokens

@@ -1,9 +1,9 @@
 -- The form that the function gives is the one that the tokens have.
-use Rattle.std.proofs.Common.{◌≡◌, ℕ, zero, suc, ◌+◌, ◌≤◌, ◌<◌, Bool, true, false, cond, List, [], ◌∷◌, ◌++◌, ◌⊎◌, length, refl, sym, ap, subst, ◌∙◌, inl, inr, append_assoc, append-nil, arith, rules, ℤ}
+use Rattle.std.proofs.Common.{◌≡◌, ℕ, zero, suc, ◌<◌, true, List, [], ◌∷◌, ◌++◌, ◌⊎◌, length, refl, sym, ap, subst, ◌∙◌, inl, inr, append_assoc, append-nil, arith, ℤ}
 use Rattle.std.specs.Prelude.{Option, Some, None}
-use Rattle.std.specs.Option.{option_map, option_and_then}
+use Rattle.std.specs.Option.{option_and_then}
 use Rattle.std.specs.List.{flat_map}
-use denote.Enum.Bare.{sameb, same_true, true_same}
+use denote.Enum.Bare.{same_true}
 use Rattle.index_spec.specs.contracts.word.Word.{the_type}
 use Rattle.index_spec.specs.declared.word.Word.{Word}
 use Rattle.index_spec.specs.declared.word.Word.TheVariants as w
@@ -14,9 +14,8 @@ use Rattle.index_spec.specs.declared.options.Value.TheVariants as v
 use Rattle.index_spec.specs.declared.options.Setting.{Setting}
 use Rattle.index_spec.specs.declared.options.Form.{Form}
 use Rattle.index_spec.specs.Words.{same_word}
-use Rattle.index_spec.specs.Options.{separated, value_tokens, setting_tokens, element_tokens, plain, IsElement, IsForm, numbers_at, numbers_before, value_at, setting_at, settings_before, after_end, ended_or, settings_within, settings_of, element_at, whole, form_of}
+use Rattle.index_spec.specs.Options.{separated, value_tokens, setting_tokens, element_tokens, plain, IsElement, IsForm, numbers_at, value_at, setting_at, settings_before, after_end, ended_or, settings_within, settings_of, element_at, whole, form_of}
 use Rattle.index_spec.proofs.Cases.{chosen, mapped, chained}
-use Rattle.index_spec.proofs.Elements.{settings_of-ended, settings_of-more}
 
 -- ---- what is read is written so
 
@@ -83,13 +82,14 @@ settings_are zero ts found e =
 settings_are (suc n) ts found e =
     let after : Setting × List Token → Option (List Setting × List Token) = λ f. settings_before (f.0 ∷ []) (settings_within n f.1) in
     elim (ended_is (after_end ts) (option_and_then after (setting_at ts)) found e) [
-      inl h ↦ settings_at_end ts h.0 found h.1.0 h.1.1
-    | inr h ↦ (
-        let first = chained after (setting_at ts) found h in
-        let more = mapped (λ f. ((first.0.0 ∷ []) ++ f.0, f.1)) (settings_within n first.0.1) found first.1.1 in
-        let others = settings_are n first.0.1 more.0 more.1.0 in
-        let here = setting_is ts first.0 first.1.0 in
-        subst (SettingsAre ts) more.1.1 (here ∙ (ap (λ x. setting_tokens first.0.0 ++ x) others ∙ sym (append_assoc (setting_tokens first.0.0) (flat_map setting_tokens more.0.0) (t.Slash ∷ (t.Greater ∷ more.0.1)))))) ]
+      | inl h ↦ settings_at_end ts h.0 found h.1.0 h.1.1
+      | inr h ↦ (
+          let first = chained after (setting_at ts) found h in
+          let more = mapped (λ f. ((first.0.0 ∷ []) ++ f.0, f.1)) (settings_within n first.0.1) found first.1.1 in
+          let others = settings_are n first.0.1 more.0 more.1.0 in
+          let here = setting_is ts first.0 first.1.0 in
+          subst (SettingsAre ts) more.1.1 (here ∙ (ap (λ x. setting_tokens first.0.0 ++ x) others ∙ sym (append_assoc (setting_tokens first.0.0) (flat_map setting_tokens more.0.0) (t.Slash ∷ (t.Greater ∷ more.0.1))))))
+    ]
 
 -- the element at the front
 record ElementIs (name default : Word) (ts : List Token) (found : List Setting × List Token) : Type 0 where
@@ -105,9 +105,11 @@ unfolding settings_of
 present name default ts found e =
     let is = settings_are (length ts) ts found e in
     let tokens = flat_map setting_tokens found.0 in
-    record { front = element_tokens name found.0;
+    record {
+      front = element_tokens name found.0;
       joined = ap (λ x. t.Less ∷ (t.Word name ∷ x)) (is ∙ sym (append_assoc tokens (t.Slash ∷ (t.Greater ∷ [])) found.1));
-      is = inl refl }
+      is = inl refl;
+    }
 
 absent : (name default : Word) (ts : List Token) (found : List Setting × List Token) → Some (plain default, ts) ≡ Some found → ElementIs name default ts found
 absent name default ts found e =
@@ -118,9 +120,10 @@ element_is : (name default : Word) (ts : List Token) (found : List Setting × Li
 unfolding element_at
 element_is name default (t.Less ∷ t.Word word ∷ ts) found e =
     elim (chosen (same_word word name) (settings_of ts) (Some (plain default, t.Less ∷ (t.Word word ∷ ts))) (Some found) e) [
-      inl h ↦ (let same : name ≡ word = sym (same_word_is word name h.0) in
+      | inl h ↦ (let same : name ≡ word = sym (same_word_is word name h.0) in
           subst (λ x. ElementIs name default (t.Less ∷ (t.Word x ∷ ts)) found) same (present name default ts found h.1))
-    | inr h ↦ absent name default (t.Less ∷ (t.Word word ∷ ts)) found h.1 ]
+      | inr h ↦ absent name default (t.Less ∷ (t.Word word ∷ ts)) found h.1
+    ]
 element_is name default ts found e = absent name default ts found e
 
 whole_is : (binning : List Setting) (o : Option (List Setting × List Token)) (form : Form) → whole binning o ≡ Some form → (encoding : List Setting) × ((o ≡ Some (encoding, [])) × (record { binning = binning; encoding = encoding } ≡ form))
@@ -134,6 +137,10 @@ form_of-formed ts form e =
     let g = whole_is h.0.0 (element_at w.Encoding w.Equality h.0.1) form h.1.1 in
     let first = element_is w.Binning w.Each ts h.0 h.1.0 in
     let second = element_is w.Encoding w.Equality h.0.1 (g.0, []) g.1.0 in
-    subst (IsForm ts) g.1.1 (record { front = first.front; back = second.front;
+    subst (IsForm ts) g.1.1 (record {
+      front = first.front;
+      back = second.front;
       joined = first.joined ∙ ap (λ x. first.front ++ x) (second.joined ∙ append-nil second.front);
-      binning = first.is; encoding = second.is })
+      binning = first.is;
+      encoding = second.is;
+    })

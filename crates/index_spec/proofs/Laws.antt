@@ -1,5 +1,5 @@
 -- The answer for a text, by what the text spells.
-use Rattle.std.proofs.Common.{◌≡◌, ℕ, ◌≤◌, ◌<◌, Bool, true, false, cond, not, ◌||◌, List, length, refl, sym, ap, subst, ◌∙◌, inl, inr, arith, ltb}
+use Rattle.std.proofs.Common.{◌≡◌, ℕ, ◌≤◌, ◌<◌, Bool, true, false, cond, not, ◌||◌, List, length, refl, subst, ◌∙◌, arith}
 use Rattle.std.specs.Prelude.{Option, Some, None, Result, Ok, Err, nat_lt}
 use Rattle.std.specs.Option.{option_and_then}
 use Rattle.std.proofs.lemmas.Bool.Decides.{nat_tests}
@@ -13,8 +13,8 @@ use Rattle.index_spec.specs.declared.spec.SpecFault.TheVariants as fault
 use Rattle.index_spec.specs.Tokens.{tokens_of, Spells}
 use Rattle.index_spec.specs.Options.{form_of, IsForm}
 use Rattle.index_spec.specs.Meaning.{meaning, verdict, checked, draft, repeats, any_outside, is_counted, is_bounded}
-use Rattle.index_spec.specs.Language.{IsSpelledBy, IsGiven, answer_by, spec_of, Gives, IsToldByText}
-use Rattle.index_spec.proofs.Cases.{chosen, chained}
+use Rattle.index_spec.specs.Language.{IsSpelledBy, answer_by, spec_of, Gives, IsToldByText}
+use Rattle.index_spec.proofs.Cases.{chained}
 use Rattle.index_spec.proofs.Spelled.{tokens_of-spelled}
 use Rattle.index_spec.proofs.Reread.{spelled-tokens_of}
 use Rattle.index_spec.proofs.Formed.{form_of-formed}
@@ -91,9 +91,9 @@ either false a b ha hb = hb
 checked_kind : (f : Form) (s : Spec) → IsOfForm (checked f s)
 checked_kind f s =
     either (repeats f.binning || repeats f.encoding) (Err kind.Repeated) _ tt
-        (either (any_outside f.binning || any_outside f.encoding) (Err kind.Number) _ tt
-            (either (not (is_counted s)) (Err kind.Count) _ tt
-                (either (not (is_bounded s.binning)) (Err kind.Bounds) (Ok s) tt tt)))
+    (either (any_outside f.binning || any_outside f.encoding) (Err kind.Number) _ tt
+    (either (not (is_counted s)) (Err kind.Count) _ tt
+    (either (not (is_bounded s.binning)) (Err kind.Bounds) (Ok s) tt tt)))
 
 verdict_kind : (f : Form) (o : Option Spec) → IsOfForm (verdict f o)
 verdict_kind f None = tt

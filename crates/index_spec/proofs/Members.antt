@@ -1,6 +1,6 @@
 -- Tests over a list, by its members.
-use Rattle.std.proofs.Common.{◌≡◌, ℕ, zero, suc, ◌+◌, ◌≤◌, ◌<◌, Bool, true, false, cond, ◌&&◌, ◌||◌, List, [], ◌∷◌, ◌⊎◌, length, get_or, refl, sym, ap, subst, ◌∙◌, inl, inr, arith}
-use Rattle.std.specs.Prelude.{Option, Some, None, ◌↔◌}
+use Rattle.std.proofs.Common.{◌≡◌, ℕ, zero, suc, ◌+◌, ◌≤◌, ◌<◌, Bool, true, false, cond, ◌||◌, List, [], ◌∷◌, ◌⊎◌, length, get_or, refl, sym, ap, subst, ◌∙◌, inl, inr, arith}
+use Rattle.std.specs.Prelude.{Some, ◌↔◌}
 use Rattle.std.specs.List.{Contains, list_all, list_any, find, count_by}
 use Rattle.std.proofs.lemmas.List.Sums.{sum_by-cons}
 use Rattle.index_spec.proofs.Cases.{chosen}
@@ -51,15 +51,17 @@ pub any_if : {X : Type 0} (p : X → Bool) (xs : List X) (x : X) → Contains xs
 any_if p [] x h e = absurd (nowhere x h)
 any_if p (y ∷ ys) x h e =
     elim (in_cases y ys x h) [
-      inl same ↦ or_left (p y) (list_any p ys) (subst (λ z. p z ≡ true) (sym same) e)
-    | inr g ↦ or_right (p y) (list_any p ys) (any_if p ys x g e) ]
+      | inl same ↦ or_left (p y) (list_any p ys) (subst (λ z. p z ≡ true) (sym same) e)
+      | inr g ↦ or_right (p y) (list_any p ys) (any_if p ys x g e)
+    ]
 
 pub any_of : {X : Type 0} (p : X → Bool) (xs : List X) → list_any p xs ≡ true → (x : X) × (Contains xs x × (p x ≡ true))
 any_of p [] e = cc
 any_of p (y ∷ ys) e =
     elim (or_cases (p y) (list_any p ys) e) [
-      inl h ↦ (y, (here y ys, h))
-    | inr h ↦ (let more = any_of p ys h in (more.0, (later y ys more.0 more.1.0, more.1.1))) ]
+      | inl h ↦ (y, (here y ys, h))
+      | inr h ↦ (let more = any_of p ys h in (more.0, (later y ys more.0 more.1.0, more.1.1)))
+    ]
 
 pub none_of : {X : Type 0} (p : X → Bool) (xs : List X) (x : X) → list_any p xs ≡ false → Contains xs x → p x ≡ false
 none_of p [] x none h = absurd (nowhere x h)
@@ -84,21 +86,22 @@ SameMembers {X} xs ys = (x : X) → Contains xs x ↔ Contains ys x
 pub all_same : {X : Type 0} (p : X → Bool) (xs ys : List X) → SameMembers xs ys → list_all p xs ≡ list_all p ys
 all_same p xs ys same =
     same_bool (list_all p xs) (list_all p ys)
-        (λ e. all_if p ys (λ x h. all_of p xs x e ((same x).1 h)))
-        (λ e. all_if p xs (λ x h. all_of p ys x e ((same x).0 h)))
+    (λ e. all_if p ys (λ x h. all_of p xs x e ((same x).1 h)))
+    (λ e. all_if p xs (λ x h. all_of p ys x e ((same x).0 h)))
 
 pub any_same : {X : Type 0} (p : X → Bool) (xs ys : List X) → SameMembers xs ys → list_any p xs ≡ list_any p ys
 any_same p xs ys same =
     same_bool (list_any p xs) (list_any p ys)
-        (λ e. let found = any_of p xs e in any_if p ys found.0 ((same found.0).0 found.1.0) found.1.1)
-        (λ e. let found = any_of p ys e in any_if p xs found.0 ((same found.0).1 found.1.0) found.1.1)
+    (λ e. let found = any_of p xs e in any_if p ys found.0 ((same found.0).0 found.1.0) found.1.1)
+    (λ e. let found = any_of p ys e in any_if p xs found.0 ((same found.0).1 found.1.0) found.1.1)
 
 pub found_in : {X : Type 0} (p : X → Bool) (xs : List X) (x : X) → find p xs ≡ Some x → Contains xs x × (p x ≡ true)
 found_in p [] x e = cc
 found_in p (y ∷ ys) x e =
     elim (chosen (p y) (Some y) (find p ys) (Some x) e) [
-      inl h ↦ (let same : y ≡ x = cc in subst (λ z. Contains (y ∷ ys) z × (p z ≡ true)) same (here y ys, h.0))
-    | inr h ↦ (let more = found_in p ys x h.1 in (later y ys x more.0, more.1)) ]
+      | inl h ↦ (let same : y ≡ x = cc in subst (λ z. Contains (y ∷ ys) z × (p z ≡ true)) same (here y ys, h.0))
+      | inr h ↦ (let more = found_in p ys x h.1 in (later y ys x more.0, more.1))
+    ]
 
 count_by-cons : {X : Type 0} (p : X → Bool) (y : X) (ys : List X) (test : Bool) → p y ≡ test → count_by p (y ∷ ys) ≡ cond test 1 0 + count_by p ys
 count_by-cons p y ys test e = sum_by-cons (λ x. cond (p x) 1 0) y ys ∙ ap (λ t. cond t 1 0 + count_by p ys) e
@@ -107,21 +110,24 @@ pub counted : {X : Type 0} (p : X → Bool) (xs : List X) (x : X) → Contains x
 counted p [] x h e = absurd (nowhere x h)
 counted p (y ∷ ys) x h e =
     elim (in_cases y ys x h) [
-      inl same ↦ (let cut = count_by-cons p y ys true (subst (λ z. p z ≡ true) (sym same) e) in omega (arith, cut))
-    | inr g ↦ (let more = counted p ys x g e in let cut = sum_by-cons (λ x. cond (p x) 1 0) y ys in omega (arith, cut, more)) ]
+      | inl same ↦ (let cut = count_by-cons p y ys true (subst (λ z. p z ≡ true) (sym same) e) in omega (arith, cut))
+      | inr g ↦ (let more = counted p ys x g e in let cut = sum_by-cons (λ x. cond (p x) 1 0) y ys in omega (arith, cut, more))
+    ]
 
 unique_step : {X : Type 0} (p : X → Bool) (y : X) (ys : List X) (x : X) (test : Bool) → p y ≡ test → count_by p (y ∷ ys) ≤ 1 → Contains (y ∷ ys) x → p x ≡ true
     → (count_by p ys ≤ 1 → Contains ys x → find p ys ≡ Some x) → cond test (Some y) (find p ys) ≡ Some x
 unique_step p y ys x true e once h passes more =
     let cut = count_by-cons p y ys true e in
     elim (in_cases y ys x h) [
-      inl same ↦ ap Some same
-    | inr g ↦ (let some = counted p ys x g passes in absurd (omega (arith, cut, some))) ]
+      | inl same ↦ ap Some same
+      | inr g ↦ (let some = counted p ys x g passes in absurd (omega (arith, cut, some)))
+    ]
 unique_step p y ys x false e once h passes more =
     let cut = count_by-cons p y ys false e in
     elim (in_cases y ys x h) [
-      inl same ↦ (let no : p x ≡ false = subst (λ z. p z ≡ false) same e in cc)
-    | inr g ↦ more (omega (arith, cut)) g ]
+      | inl same ↦ (let no : p x ≡ false = subst (λ z. p z ≡ false) same e in cc)
+      | inr g ↦ more (omega (arith, cut)) g
+    ]
 
 pub found_once : {X : Type 0} (p : X → Bool) (xs : List X) (x : X) → count_by p xs ≤ 1 → Contains xs x → p x ≡ true → find p xs ≡ Some x
 found_once p [] x once h passes = absurd (nowhere x h)

@@ -1,6 +1,5 @@
 -- Tokens put before a text that is spelled.
-use Rattle.std.proofs.Common.{◌≡◌, ℕ, zero, suc, ◌+◌, ◌*◌, ◌-◌, ◌^◌, ◌≤◌, ◌<◌, min, Bool, true, false, List, [], ◌∷◌, ◌++◌, length, refl, sym, ap, subst, ◌∙◌, append_assoc, arith, rules, ℤ, pos, negsuc}
-use Rattle.std.specs.Prelude.{◌≤ℤ◌}
+use Rattle.std.proofs.Common.{◌≡◌, ℕ, suc, ◌^◌, ◌≤◌, ◌<◌, min, Bool, true, false, List, [], ◌∷◌, ◌++◌, length, refl, sym, ap, subst, ◌∙◌, append_assoc, arith, rules, ℤ, pos, negsuc}
 use Rattle.std.specs.List.{list_all}
 use Rattle.std.specs.Char.{is_ascii_digit}
 use Rattle.std.specs.Fmt.{decimal, signed_decimal}
@@ -9,7 +8,7 @@ use Rattle.std.proofs.lemmas.Fmt.{digits_decimal, digits_value-decimal, decimal_
 use Rattle.std.proofs.lemmas.Int.{ints}
 use Rattle.index_spec.specs.declared.token.Token.{Token}
 use Rattle.index_spec.specs.declared.token.Token.TheVariants as t
-use Rattle.index_spec.specs.Tokens.{is_blank, minus, value_from, magnitude, signed, IsNumeral, IsWritten, StopsAt, EndsAt, BeginsWith, Spells}
+use Rattle.index_spec.specs.Tokens.{minus, value_from, magnitude, signed, IsNumeral, IsWritten, StopsAt, EndsAt, Spells}
 use Rattle.index_spec.specs.Language.{IsInRange}
 use Rattle.index_spec.proofs.Spelled.{blank_before}
 

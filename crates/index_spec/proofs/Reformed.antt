@@ -1,7 +1,7 @@
 -- The form that tokens have is the one that the function gives.
-use Rattle.std.proofs.Common.{◌≡◌, ℕ, zero, suc, ◌+◌, ◌≤◌, ◌<◌, Bool, true, false, cond, List, [], ◌∷◌, ◌++◌, ◌⊎◌, length, refl, sym, ap, subst, ◌∙◌, inl, inr, append_assoc, append-nil, arith, rules, ℤ}
-use Rattle.std.specs.Prelude.{Option, Some, None}
-use Rattle.std.specs.Option.{option_map, option_and_then}
+use Rattle.std.proofs.Common.{◌≡◌, true, List, [], ◌∷◌, ◌++◌, refl, sym, ap, subst, ◌∙◌, inl, inr, append_assoc, append-nil, ℤ}
+use Rattle.std.specs.Prelude.{Some}
+use Rattle.std.specs.Option.{option_map}
 use Rattle.std.specs.List.{flat_map}
 use denote.Enum.Bare.{true_same}
 use Rattle.index_spec.specs.contracts.word.Word.{the_type}
@@ -14,7 +14,7 @@ use Rattle.index_spec.specs.declared.options.Value.TheVariants as v
 use Rattle.index_spec.specs.declared.options.Setting.{Setting}
 use Rattle.index_spec.specs.declared.options.Form.{Form}
 use Rattle.index_spec.specs.Words.{same_word}
-use Rattle.index_spec.specs.Options.{separated, value_tokens, setting_tokens, element_tokens, plain, IsElement, IsForm, numbers_at, numbers_before, value_at, setting_at, settings_before, after_end, ended_or, settings_within, settings_of, element_at, whole, form_of}
+use Rattle.index_spec.specs.Options.{separated, value_tokens, setting_tokens, element_tokens, plain, IsElement, IsForm, numbers_at, numbers_before, value_at, setting_at, settings_before, settings_of, element_at, form_of}
 use Rattle.index_spec.proofs.Elements.{settings_of-ended, settings_of-more}
 
 numbers_again : (n : ℤ) (ns : List ℤ) (rest : List Token) → numbers_at (separated (n ∷ ns) ++ (t.Close ∷ rest)) ≡ Some (n ∷ ns, rest)

@@ -1,6 +1,6 @@
 -- The tokens that a text spells are those that the function gives.
-use Rattle.std.proofs.Common.{◌≡◌, ℕ, zero, suc, ◌+◌, ◌-◌, ◌≤◌, ◌<◌, Bool, true, false, cond, ◌&&◌, List, [], ◌∷◌, ◌++◌, length, get_or, take, drop, refl, sym, ap, subst, ◌∙◌, inl, inr, eqb, append_assoc, arith, ℤ}
-use Rattle.std.specs.Prelude.{Option, Some, None}
+use Rattle.std.proofs.Common.{◌≡◌, ℕ, ◌<◌, Bool, true, false, List, [], ◌∷◌, ◌++◌, length, get_or, take, drop, refl, sym, ap, subst, ◌∙◌, eqb, arith}
+use Rattle.std.specs.Prelude.{Some}
 use Rattle.std.specs.Option.{option_map}
 use Rattle.std.specs.List.{prefix_len, list_all}
 use Rattle.std.specs.Char.{is_ascii_digit}
@@ -11,7 +11,7 @@ use Rattle.index_spec.specs.declared.word.Word.TheVariants as w
 use Rattle.index_spec.specs.declared.token.Token.{Token}
 use Rattle.index_spec.specs.declared.token.Token.TheVariants as t
 use Rattle.index_spec.specs.Words.{spelling, word_of}
-use Rattle.index_spec.specs.Tokens.{is_blank, is_letter, in_word, sign_of, minus, magnitude, signed, word_at, number_at, token_at, tokens_of, IsNumeral, IsWritten, StopsAt, EndsAt, BeginsWith, Spells}
+use Rattle.index_spec.specs.Tokens.{is_blank, is_letter, in_word, minus, magnitude, signed, word_at, number_at, token_at, tokens_of, IsWritten, StopsAt, EndsAt, Spells}
 use Rattle.index_spec.proofs.Runs.{prefix_len-cut, and_parts}
 use Rattle.index_spec.proofs.Lexing.{tokens_of-blank, tokens_of-some, tokens_of-empty}
 

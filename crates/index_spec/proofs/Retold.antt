@@ -1,13 +1,12 @@
 -- Options of a specification that the grammar gives are read as it.
-use Rattle.std.proofs.Common.{◌≡◌, ℕ, zero, suc, ◌+◌, ◌-◌, ◌^◌, ◌≤◌, ◌<◌, Bool, true, false, cond, not, ◌&&◌, ◌||◌, List, [], ◌∷◌, ◌⊎◌, length, refl, sym, ap, subst, ◌∙◌, inl, inr, arith, ℤ, pos, negsuc}
-use Rattle.std.specs.Prelude.{Option, Some, None, Result, Ok, Err, ◌↔◌, nat_lt, nat_le, int_lt, ◌≤ℤ◌, ◌<ℤ◌}
-use Rattle.std.specs.Option.{option_map, option_and_then}
-use Rattle.std.specs.List.{Contains, AllByRecursion, list_all, list_any, find, count_by}
+use Rattle.std.proofs.Common.{◌≡◌, ℕ, ◌-◌, ◌^◌, ◌≤◌, ◌<◌, true, false, ◌&&◌, List, [], ◌∷◌, length, refl, ap, ◌∙◌, arith, ℤ, pos, negsuc}
+use Rattle.std.specs.Prelude.{Some, Ok, nat_lt, nat_le, int_lt}
+use Rattle.std.specs.Option.{option_map}
+use Rattle.std.specs.List.{Contains, AllByRecursion, list_all, list_any}
 use Rattle.std.proofs.lemmas.Bool.Decides.{nat_tests}
 use Rattle.std.proofs.lemmas.Int.{ints}
 use Rattle.index_spec.specs.declared.word.Word.{Word}
 use Rattle.index_spec.specs.declared.word.Word.TheVariants as w
-use Rattle.index_spec.specs.declared.options.Value.{Value}
 use Rattle.index_spec.specs.declared.options.Value.TheVariants as v
 use Rattle.index_spec.specs.declared.options.Setting.{Setting}
 use Rattle.index_spec.specs.declared.options.Form.{Form}
@@ -18,14 +17,12 @@ use Rattle.index_spec.specs.declared.spec.Coarse.TheVariants as coarse
 use Rattle.index_spec.specs.declared.spec.EncodingSpec.{EncodingSpec}
 use Rattle.index_spec.specs.declared.spec.EncodingSpec.TheVariants as encoding
 use Rattle.index_spec.specs.declared.spec.Spec.{Spec}
-use Rattle.index_spec.specs.declared.spec.SpecKind.{SpecKind}
-use Rattle.index_spec.specs.declared.spec.SpecKind.TheVariants as kind
 use Rattle.index_spec.specs.Words.{same_word}
 use Rattle.index_spec.specs.Options.{plain}
-use Rattle.index_spec.specs.Meaning.{fits, all_fit, has, is_among, are_among, has_all, is_set, times, repeats, lookup, number_in, number_named, numbers_in, numbers_named, coarse_in, coarse_named, within, draft_binning, draft_encoding, draft, outside, has_outside, any_outside, is_binning_counted, is_encoding_counted, is_counted, rises, is_bounded, checked, verdict, meaning}
+use Rattle.index_spec.specs.Meaning.{fits, all_fit, has, is_among, are_among, has_all, is_set, repeats, lookup, number_in, number_named, numbers_in, numbers_named, coarse_in, coarse_named, within, draft_binning, draft_encoding, draft, outside, has_outside, any_outside, is_binning_counted, is_encoding_counted, rises, is_bounded, verdict, meaning}
 use Rattle.index_spec.specs.Language.{option, IsInRange, IsGivenBinning, IsGivenEncoding, IsGiven, binning_options, coarse_word, encoding_options, HasOptions}
 use Rattle.index_spec.proofs.Runs.{and_both}
-use Rattle.index_spec.proofs.Members.{here, later, all_same, any_same, all_if, found_once, SameMembers}
+use Rattle.index_spec.proofs.Members.{here, later, all_same, any_same, found_once, SameMembers}
 use Rattle.index_spec.proofs.Sets.{no_repeats, word_refl}
 
 -- ---- numbers
@@ -79,7 +76,8 @@ tidy : (ss wanted : List Setting) → HasOptions wanted ss → all_fit wanted �
 tidy ss wanted options fit small = record {
   fit = all_same (λ s. fits s.name s.value) ss wanted options.same ∙ fit;
   single = no_repeats ss options.once;
-  small = any_same (λ s. has_outside s.value) ss wanted options.same ∙ small }
+  small = any_same (λ s. has_outside s.value) ss wanted options.same ∙ small;
+}
 
 -- ---- binning
 
@@ -127,9 +125,12 @@ binning_read (binning.Width start end count) ss options given =
     let low : nat_lt 0 count ≡ true = positive count given.3 in
     let order : int_lt start end ≡ true = (let h = given.2 in grind (arith, ints)) in
     let counts : within 100000 (number_named w.Nbins ss) ≡ count = ap (within 100000) vc ∙ within-small 100000 count given.4 in
-    record { tidy = tidy ss wanted options refl outside_none;
+    record {
+      tidy = tidy ss wanted options refl outside_none;
       draft = rw (one, two, three) (ap (λ x. Some (binning.Width x (number_named w.End ss) (within 100000 (number_named w.Nbins ss)))) va ∙ (ap (λ x. Some (binning.Width start x (within 100000 (number_named w.Nbins ss)))) vb ∙ ap (λ x. Some (binning.Width start end x)) counts));
-      counted = and_both (nat_lt 0 count) (int_lt start end) low order; bounded = refl }
+      counted = and_both (nat_lt 0 count) (int_lt start end) low order;
+      bounded = refl;
+    }
 binning_read (binning.Weight count) ss options given =
     let c : Setting = option w.Nbins (pos count) in
     let wanted : List Setting = c ∷ [] in
@@ -202,9 +203,11 @@ encoding_read (encoding.TwoLevel level count) ss options given =
     let outside_none : any_outside wanted ≡ false = rw oc refl in
     let fit : all_fit wanted ≡ true = (let fb : fits w.Coarse (v.Word (coarse_word level)) ≡ true = level_fits level in rw fb refl) in
     let counts : within 100000 (number_named w.Ncoarse ss) ≡ count = ap (within 100000) vc ∙ within-small 100000 count given.1 in
-    record { tidy = tidy ss wanted options fit outside_none;
+    record {
+      tidy = tidy ss wanted options fit outside_none;
       draft = rw (one, two, three, four) (ap (λ x. Some (encoding.TwoLevel x (within 100000 (number_named w.Ncoarse ss)))) vb ∙ ap (λ x. Some (encoding.TwoLevel level x)) counts);
-      counted = positive count given.0 }
+      counted = positive count given.0;
+    }
 
 -- ---- the form
 

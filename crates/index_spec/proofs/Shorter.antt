@@ -1,6 +1,6 @@
 -- A token has at least one byte.
-use Rattle.std.proofs.Common.{◌≡◌, ℕ, zero, suc, ◌+◌, ◌-◌, ◌≤◌, ◌<◌, Bool, true, false, cond, List, [], ◌∷◌, ◌++◌, length, take, drop, refl, sym, ap, ◌∙◌, arith, rules, eqb, length-drop, inl, inr}
-use Rattle.std.specs.Prelude.{Option, Some, None}
+use Rattle.std.proofs.Common.{◌≡◌, ℕ, ◌-◌, ◌≤◌, ◌<◌, Bool, true, false, cond, List, [], ◌∷◌, length, take, drop, ap, arith, eqb, length-drop, inl, inr}
+use Rattle.std.specs.Prelude.{Option, Some}
 use Rattle.std.specs.Option.{option_map}
 use Rattle.std.specs.List.{prefix_len}
 use Rattle.std.specs.Char.{is_ascii_digit}
@@ -49,9 +49,12 @@ token_at_shorter (b ∷ bs) found e =
     let number : Option (Token × List ℕ) = number_at false (b ∷ bs) in
     let word : Option (Token × List ℕ) = word_at (b ∷ bs) in
     elim (chosen (eqb b 45) (number_at true bs) (cond (is_letter b) word (cond (is_ascii_digit b) number sign)) (Some found) e) [
-      inl h ↦ (let s = number_at_shorter true bs found h.1 in omega arith)
-    | inr h ↦ elim (chosen (is_letter b) word (cond (is_ascii_digit b) number sign) (Some found) h.1) [
-        inl g ↦ word_at_shorter b bs found g.0 g.1
-      | inr g ↦ elim (chosen (is_ascii_digit b) number sign (Some found) g.1) [
-          inl f ↦ number_at_shorter false (b ∷ bs) found f.1
-        | inr f ↦ sign_shorter b bs found f.1 ] ] ]
+      | inl h ↦ (let s = number_at_shorter true bs found h.1 in omega arith)
+      | inr h ↦ elim (chosen (is_letter b) word (cond (is_ascii_digit b) number sign) (Some found) h.1) [
+        | inl g ↦ word_at_shorter b bs found g.0 g.1
+        | inr g ↦ elim (chosen (is_ascii_digit b) number sign (Some found) g.1) [
+          | inl f ↦ number_at_shorter false (b ∷ bs) found f.1
+          | inr f ↦ sign_shorter b bs found f.1
+        ]
+      ]
+    ]

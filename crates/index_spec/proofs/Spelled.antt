@@ -1,5 +1,5 @@
 -- The tokens that the function gives are those that the text spells.
-use Rattle.std.proofs.Common.{◌≡◌, ℕ, zero, suc, ◌+◌, ◌-◌, ◌≤◌, ◌<◌, Bool, true, false, cond, ◌&&◌, List, [], ◌∷◌, ◌++◌, length, take, drop, refl, sym, ap, subst, ◌∙◌, inl, inr, eqb, eqb-true, append_assoc, arith}
+use Rattle.std.proofs.Common.{◌≡◌, ℕ, zero, suc, ◌≤◌, ◌<◌, Bool, true, false, cond, List, [], ◌∷◌, ◌++◌, length, take, drop, refl, sym, ap, subst, ◌∙◌, inl, inr, eqb, eqb-true, append_assoc, arith}
 use Rattle.std.specs.Prelude.{Option, Some, None}
 use Rattle.std.specs.Option.{option_map, option_and_then}
 use Rattle.std.specs.List.{prefix_len, list_all, find}
@@ -14,7 +14,7 @@ use Rattle.index_spec.specs.declared.word.TheConstants.{WORDS}
 use Rattle.index_spec.specs.declared.token.Token.{Token}
 use Rattle.index_spec.specs.declared.token.Token.TheVariants as t
 use Rattle.index_spec.specs.Words.{spelling, word_of}
-use Rattle.index_spec.specs.Tokens.{is_blank, is_letter, in_word, sign_of, minus, magnitude, signed, word_at, number_at, token_at, tokens_within, tokens_of, IsNumeral, IsWritten, StopsAt, EndsAt, BeginsWith, Spells}
+use Rattle.index_spec.specs.Tokens.{is_blank, is_letter, in_word, sign_of, minus, magnitude, signed, word_at, number_at, token_at, tokens_within, tokens_of, IsNumeral, IsWritten, EndsAt, Spells}
 use Rattle.index_spec.proofs.Cases.{chosen, guarded, mapped, chained}
 use Rattle.index_spec.proofs.Runs.{front_passes, rest_stops, and_both}
 
@@ -22,8 +22,9 @@ find_passes : {X : Type 0} (p : X → Bool) (xs : List X) (x : X) → find p xs 
 find_passes p [] x e = cc
 find_passes p (y ∷ ys) x e =
     elim (chosen (p y) (Some y) (find p ys) (Some x) e) [
-      inl h ↦ (let same : y ≡ x = cc in subst (λ z. p z ≡ true) same h.0)
-    | inr h ↦ find_passes p ys x h.1 ]
+      | inl h ↦ (let same : y ≡ x = cc in subst (λ z. p z ≡ true) same h.0)
+      | inr h ↦ find_passes p ys x h.1
+    ]
 
 word_of_spelled : (form : List ℕ) (w : Word) → word_of form ≡ Some w → form ≡ spelling w
 unfolding word_of
@@ -56,7 +57,7 @@ number_cuts is_negative text found e =
     let digits = take n text in
     let h = guarded (eqb n 0) (t.Number (signed is_negative (magnitude digits)), drop n text) found e in
     let numeral : IsNumeral (minus is_negative ++ digits) (signed is_negative (magnitude digits)) =
-        record { is_negative = is_negative; digits = digits; written = refl; all_digits = front_passes is_ascii_digit text; some_digit = some_digits n text h.0 (prefix_len-le-length is_ascii_digit text); value = refl } in
+    record { is_negative = is_negative; digits = digits; written = refl; all_digits = front_passes is_ascii_digit text; some_digit = some_digits n text h.0 (prefix_len-le-length is_ascii_digit text); value = refl } in
     let cut : minus is_negative ++ text ≡ (minus is_negative ++ digits) ++ drop n text = ap (λ x. minus is_negative ++ x) (sym (take-append-drop n text)) ∙ sym (append_assoc (minus is_negative) digits (drop n text)) in
     subst (CutsAt (minus is_negative ++ text)) h.1 (record { form = minus is_negative ++ digits; cut = cut; written = numeral; ends = rest_stops is_ascii_digit text })
 
@@ -72,8 +73,9 @@ sign_here b n sign token is same e =
 sign_step : (b n : ℕ) (sign : Token) (others : Option Token) (token : Token) → cond (eqb b n) (Some sign) others ≡ Some token → IsSign n sign → (others ≡ Some token → IsSign b token) → IsSign b token
 sign_step b n sign others token e is more =
     elim (chosen (eqb b n) (Some sign) others (Some token) e) [
-      inl h ↦ sign_here b n sign token is h.0 h.1
-    | inr h ↦ more h.1 ]
+      | inl h ↦ sign_here b n sign token is h.0 h.1
+      | inr h ↦ more h.1
+    ]
 
 no_sign : (b : ℕ) (token : Token) → ◌≡◌ {A = Option Token} None (Some token) → IsSign b token
 no_sign b token e = cc
@@ -107,12 +109,15 @@ token_cuts (b ∷ bs) found e =
     let number : Option (Token × List ℕ) = number_at false (b ∷ bs) in
     let word : Option (Token × List ℕ) = word_at (b ∷ bs) in
     elim (chosen (eqb b 45) (number_at true bs) (cond (is_letter b) word (cond (is_ascii_digit b) number sign)) (Some found) e) [
-      inl h ↦ minus_cuts b bs found h.0 h.1
-    | inr h ↦ elim (chosen (is_letter b) word (cond (is_ascii_digit b) number sign) (Some found) h.1) [
-        inl g ↦ word_cuts (b ∷ bs) found g.1
-      | inr g ↦ elim (chosen (is_ascii_digit b) number sign (Some found) g.1) [
-          inl f ↦ number_cuts false (b ∷ bs) found f.1
-        | inr f ↦ sign_cuts b bs found f.1 ] ] ]
+      | inl h ↦ minus_cuts b bs found h.0 h.1
+      | inr h ↦ elim (chosen (is_letter b) word (cond (is_ascii_digit b) number sign) (Some found) h.1) [
+        | inl g ↦ word_cuts (b ∷ bs) found g.1
+        | inr g ↦ elim (chosen (is_ascii_digit b) number sign (Some found) g.1) [
+          | inl f ↦ number_cuts false (b ∷ bs) found f.1
+          | inr f ↦ sign_cuts b bs found f.1
+        ]
+      ]
+    ]
 
 -- a blank before a text leaves its tokens
 pub blank_before : (b : ℕ) (bs : List ℕ) (ts : List Token) → is_blank b ≡ true → Spells bs ts → Spells (b ∷ bs) ts
@@ -135,11 +140,12 @@ spelled_within zero (b ∷ bs) ts e = cc
 spelled_within (suc n) (b ∷ bs) ts e =
     let after : Token × List ℕ → Option (List Token) = λ found. option_map (λ more. found.0 ∷ more) (tokens_within n found.1) in
     elim (chosen (is_blank b) (tokens_within n bs) (option_and_then after (token_at (b ∷ bs))) (Some ts) e) [
-      inl h ↦ blank_before b bs ts h.0 (spelled_within n bs ts h.1)
-    | inr h ↦ (
-        let found = chained after (token_at (b ∷ bs)) ts h.1 in
-        let more = mapped (λ more. found.0.0 ∷ more) (tokens_within n found.0.1) ts found.1.1 in
-        subst (Spells (b ∷ bs)) more.1.1 (token_before (b ∷ bs) found.0.0 found.0.1 more.0 (token_cuts (b ∷ bs) found.0 found.1.0) (spelled_within n found.0.1 more.0 more.1.0))) ]
+      | inl h ↦ blank_before b bs ts h.0 (spelled_within n bs ts h.1)
+      | inr h ↦ (
+          let found = chained after (token_at (b ∷ bs)) ts h.1 in
+          let more = mapped (λ more. found.0.0 ∷ more) (tokens_within n found.0.1) ts found.1.1 in
+          subst (Spells (b ∷ bs)) more.1.1 (token_before (b ∷ bs) found.0.0 found.0.1 more.0 (token_cuts (b ∷ bs) found.0 found.1.0) (spelled_within n found.0.1 more.0 more.1.0)))
+    ]
 
 pub tokens_of-spelled : (text : List ℕ) (ts : List Token) → tokens_of text ≡ Some ts → Spells text ts
 unfolding tokens_of

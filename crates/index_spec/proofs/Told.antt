@@ -1,8 +1,8 @@
 -- What is read has the options of the specification, which is one that the grammar gives.
-use Rattle.std.proofs.Common.{◌≡◌, ℕ, zero, suc, ◌+◌, ◌-◌, ◌^◌, ◌≤◌, ◌<◌, Bool, true, false, cond, not, ◌&&◌, ◌||◌, List, [], ◌∷◌, ◌⊎◌, length, map, refl, sym, ap, subst, ◌∙◌, inl, inr, arith, ℤ, pos, negsuc}
-use Rattle.std.specs.Prelude.{Option, Some, None, Result, Ok, Err, ◌↔◌, nat_lt, nat_le, int_lt, ◌≤ℤ◌, ◌<ℤ◌}
+use Rattle.std.proofs.Common.{◌≡◌, ℕ, ◌-◌, ◌^◌, ◌≤◌, ◌<◌, Bool, true, false, cond, not, ◌&&◌, ◌||◌, List, [], ◌∷◌, length, refl, sym, ap, subst, ◌∙◌, inl, inr, arith, ℤ, pos, negsuc}
+use Rattle.std.specs.Prelude.{Option, Some, None, Result, Ok, Err, nat_lt, nat_le, int_lt, ◌<ℤ◌}
 use Rattle.std.specs.Option.{option_map, option_and_then}
-use Rattle.std.specs.List.{Contains, AllByRecursion, list_all, list_any, find, count_by}
+use Rattle.std.specs.List.{Contains, AllByRecursion, list_any}
 use Rattle.std.proofs.lemmas.Bool.Decides.{nat_tests}
 use Rattle.std.proofs.lemmas.Int.{ints}
 use Rattle.index_spec.specs.declared.word.Word.{Word}
@@ -22,7 +22,7 @@ use Rattle.index_spec.specs.declared.spec.SpecKind.{SpecKind}
 use Rattle.index_spec.specs.declared.spec.SpecKind.TheVariants as kind
 use Rattle.index_spec.specs.Words.{same_word}
 use Rattle.index_spec.specs.Options.{plain}
-use Rattle.index_spec.specs.Meaning.{fits, all_fit, has, is_among, are_among, has_all, is_set, times, repeats, lookup, number_in, number_named, numbers_in, numbers_named, coarse_in, coarse_named, within, draft_binning, draft_encoding, draft, outside, has_outside, any_outside, is_binning_counted, is_encoding_counted, is_counted, rises, is_bounded, checked, verdict, meaning}
+use Rattle.index_spec.specs.Meaning.{fits, all_fit, has, are_among, has_all, is_set, repeats, number_named, numbers_in, numbers_named, coarse_in, coarse_named, within, draft_binning, draft_encoding, draft, outside, has_outside, any_outside, is_binning_counted, is_encoding_counted, is_counted, rises, is_bounded, checked, verdict, meaning}
 use Rattle.index_spec.specs.Language.{option, IsInRange, IsGivenBinning, IsGivenEncoding, IsGiven, binning_options, coarse_word, encoding_options, HasOptions}
 use Rattle.index_spec.proofs.Cases.{chosen, mapped, chained}
 use Rattle.index_spec.proofs.Runs.{and_parts}
@@ -134,8 +134,8 @@ is_level _ e = cc
 one_option : (name : Word) (ss : List Setting) (s wanted : Setting) → are_among (name ∷ []) ss ≡ true → Only name ss s → s ≡ wanted → SameMembers ss (wanted ∷ [])
 one_option name ss s wanted among only e =
     subst (λ x. SameMembers ss (x ∷ [])) e
-        (in_set (name ∷ []) (λ _. s) ss among (λ m h.
-            elim (in_cases name [] m h) [ inl same ↦ subst (λ z. Only z ss s) same only | inr g ↦ absurd (nowhere m g) ]))
+    (in_set (name ∷ []) (λ _. s) ss among (λ m h.
+    elim (in_cases name [] m h) [ inl same ↦ subst (λ z. Only z ss s) same only | inr g ↦ absurd (nowhere m g) ]))
 
 -- a choice of three, by name
 pick : Word → Word → Setting → Setting → Setting → Word → Setting
@@ -144,13 +144,16 @@ pick a b x y z name = cond (same_word name a) x (cond (same_word name b) y z)
 three_options : (a b c : Word) (ss : List Setting) (x y z : Setting) (at : Word → Setting) → at a ≡ x → at b ≡ y → at c ≡ z → are_among (a ∷ b ∷ c ∷ []) ss ≡ true → Only a ss x → Only b ss y → Only c ss z → SameMembers ss (x ∷ y ∷ z ∷ [])
 three_options a b c ss x y z at ea eb ec among oa ob oc =
     let each : (n : Word) → Contains (a ∷ b ∷ c ∷ []) n → Only n ss (at n) = λ n h.
-        elim (in_cases a (b ∷ c ∷ []) n h) [
-          inl e ↦ subst (λ m. Only m ss (at m)) e (subst (Only a ss) (sym ea) oa)
-        | inr h2 ↦ elim (in_cases b (c ∷ []) n h2) [
-            inl e ↦ subst (λ m. Only m ss (at m)) e (subst (Only b ss) (sym eb) ob)
-          | inr h3 ↦ elim (in_cases c [] n h3) [
-              inl e ↦ subst (λ m. Only m ss (at m)) e (subst (Only c ss) (sym ec) oc)
-            | inr h4 ↦ absurd (nowhere n h4) ] ] ] in
+    elim (in_cases a (b ∷ c ∷ []) n h) [
+      | inl e ↦ subst (λ m. Only m ss (at m)) e (subst (Only a ss) (sym ea) oa)
+      | inr h2 ↦ elim (in_cases b (c ∷ []) n h2) [
+        | inl e ↦ subst (λ m. Only m ss (at m)) e (subst (Only b ss) (sym eb) ob)
+        | inr h3 ↦ elim (in_cases c [] n h3) [
+          | inl e ↦ subst (λ m. Only m ss (at m)) e (subst (Only c ss) (sym ec) oc)
+          | inr h4 ↦ absurd (nowhere n h4)
+        ]
+      ]
+    ] in
     let same = in_set (a ∷ b ∷ c ∷ []) at ss among each in
     subst (λ p. SameMembers ss (p ∷ y ∷ z ∷ [])) ea (subst (λ q. SameMembers ss (at a ∷ q ∷ z ∷ [])) eb (subst (λ r. SameMembers ss (at a ∷ at b ∷ r ∷ [])) ec same))
 
@@ -214,9 +217,10 @@ bounds_told ss clean set bounded =
     let few = parts.0 in
     let some : 0 < length ns = subst (λ x. 0 < length x) (sym named) list.1.1 in
     let not_out : has_outside s.0.value ≡ false = none_of (λ x. has_outside x.value) ss s.0 clean.small s.1.inside in
-    let small : list_any outside ns ≡ false = rw value at not_out in
-    (options_are (record { name = w.Bounds; value = v.Numbers ns } ∷ []) ss clean (one_option w.Bounds ss s.0 (record { name = w.Bounds; value = v.Numbers ns }) (among (w.Bounds ∷ []) ss set) s.1 is),
-     (some, grind (arith, nat_tests), parts.1, all_in_range ns small))
+    let small : list_any outside ns ≡ false = rw value at not_out in (
+      options_are (record { name = w.Bounds; value = v.Numbers ns } ∷ []) ss clean (one_option w.Bounds ss s.0 (record { name = w.Bounds; value = v.Numbers ns }) (among (w.Bounds ∷ []) ss set) s.1 is),
+      (some, grind (arith, nat_tests), parts.1, all_in_range ns small),
+    )
 
 width_told : (ss : List Setting) → Clean ss → is_set (w.Start ∷ w.End ∷ w.Nbins ∷ []) ss ≡ true
     → is_binning_counted (binning.Width (number_named w.Start ss) (number_named w.End ss) (within 100000 (number_named w.Nbins ss))) ≡ true
@@ -237,7 +241,7 @@ width_told ss clean set counted =
     let range = within_is 100000 (number_named w.Nbins ss) parts.0 in
     let same = three_options w.Start w.End w.Nbins ss a.0 b.0 c.0 (pick w.Start w.End a.0 b.0 c.0) refl refl refl (among names ss set) a.1 b.1 c.1 in
     let wanted : SameMembers ss (option w.Start start ∷ option w.End end ∷ option w.Nbins (pos count) ∷ []) =
-        subst (λ p. SameMembers ss (p ∷ option w.End end ∷ option w.Nbins (pos count) ∷ [])) na.same (subst (λ q. SameMembers ss (a.0 ∷ q ∷ option w.Nbins (pos count) ∷ [])) nb.same (subst (λ r. SameMembers ss (a.0 ∷ b.0 ∷ r ∷ [])) (counted_option w.Nbins ss c.0 100000 nc parts.0) same)) in
+    subst (λ p. SameMembers ss (p ∷ option w.End end ∷ option w.Nbins (pos count) ∷ [])) na.same (subst (λ q. SameMembers ss (a.0 ∷ q ∷ option w.Nbins (pos count) ∷ [])) nb.same (subst (λ r. SameMembers ss (a.0 ∷ b.0 ∷ r ∷ [])) (counted_option w.Nbins ss c.0 100000 nc parts.0) same)) in
     (options_are (option w.Start start ∷ option w.End end ∷ option w.Nbins (pos count) ∷ []) ss clean wanted, (na.small, nb.small, below start end parts.1, range.1, range.2))
 
 weight_told : (ss : List Setting) → Clean ss → is_set (w.Nbins ∷ []) ss ≡ true → nat_lt 0 (within 100000 (number_named w.Nbins ss)) ≡ true → BinningTold (binning.Weight (within 100000 (number_named w.Nbins ss))) ss
@@ -308,7 +312,7 @@ two_level_told ss clean set counted =
     let y : Setting = record { name = w.Coarse; value = v.Word (coarse_word level) } in
     let z : Setting = option w.Ncoarse (pos count) in
     let wanted : SameMembers ss (x ∷ y ∷ z ∷ []) =
-        subst (λ p. SameMembers ss (p ∷ y ∷ z ∷ [])) ia (subst (λ q. SameMembers ss (a.0 ∷ q ∷ z ∷ [])) ib (subst (λ r. SameMembers ss (a.0 ∷ b.0 ∷ r ∷ [])) ic same)) in
+    subst (λ p. SameMembers ss (p ∷ y ∷ z ∷ [])) ia (subst (λ q. SameMembers ss (a.0 ∷ q ∷ z ∷ [])) ib (subst (λ r. SameMembers ss (a.0 ∷ b.0 ∷ r ∷ [])) ic same)) in
     (options_are (x ∷ y ∷ z ∷ []) ss clean wanted, (range.1, range.2))
 
 pub encoding_told : (ss : List Setting) (e : EncodingSpec) → Clean ss → draft_encoding ss ≡ Some e → is_encoding_counted e ≡ true → EncodingTold e ss
@@ -342,12 +346,13 @@ unfolding draft
 drafted f s e =
     let join : EncodingSpec → Option Spec = λ e. option_map (λ b. record { binning = b; encoding = e }) (draft_binning f.binning) in
     elim (chosen (all_fit f.binning && all_fit f.encoding) (option_and_then join (draft_encoding f.encoding)) None (Some s) e) [
-      inl h ↦ (
-        let fit = and_parts (all_fit f.binning) (all_fit f.encoding) h.0 in
-        let first = chained join (draft_encoding f.encoding) s h.1 in
-        let second = mapped (λ b. record { binning = b; encoding = first.0 }) (draft_binning f.binning) s first.1.1 in
-        (fit.0, fit.1, first.1.0 ∙ ap (λ x. Some x.encoding) second.1.1, second.1.0 ∙ ap (λ x. Some x.binning) second.1.1))
-    | inr h ↦ cc ]
+      | inl h ↦ (
+          let fit = and_parts (all_fit f.binning) (all_fit f.encoding) h.0 in
+          let first = chained join (draft_encoding f.encoding) s h.1 in
+          let second = mapped (λ b. record { binning = b; encoding = first.0 }) (draft_binning f.binning) s first.1.1 in
+          (fit.0, fit.1, first.1.0 ∙ ap (λ x. Some x.encoding) second.1.1, second.1.0 ∙ ap (λ x. Some x.binning) second.1.1))
+      | inr h ↦ cc
+    ]
 
 form_told : (f : Form) (s t : Spec) → draft f ≡ Some s → checked f s ≡ Ok t → FormTold f t
 form_told f s t e told =

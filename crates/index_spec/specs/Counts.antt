@@ -1,13 +1,11 @@
 -- How many bitmaps an encoding keeps.
-use Rattle.std.specs.Prelude.{ℕ, ◌+◌, ◌-◌, ◌≤◌, List, Option, Some, None, if◌then◌else◌, ◌==◌, nat_lt}
+use Rattle.std.specs.Prelude.{ℕ, ◌+◌, ◌-◌, ◌≤◌, Option, Some, None, if◌then◌else◌, ◌==◌, nat_lt}
 use Rattle.std.specs.Option.{option_map}
 use Rattle.std.specs.Int.{div_ceil}
 use Rattle.index_spec.specs.declared.spec.Coarse.{Coarse}
 use Rattle.index_spec.specs.declared.spec.Coarse.TheVariants as coarse
 use Rattle.index_spec.specs.declared.spec.EncodingSpec.{EncodingSpec}
 use Rattle.index_spec.specs.declared.spec.EncodingSpec.TheVariants.{Equality, Range, Interval, TwoLevel}
-
-
 
 -- bitmaps of one level over n bins
 abbrev pub coarse_count : Coarse → ℕ → Option ℕ

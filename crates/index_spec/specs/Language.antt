@@ -1,7 +1,8 @@
 -- Which specification a text spells, and what is said of a text that spells none.
-use Rattle.std.specs.Prelude.{◌≡◌, ℕ, ◌≤◌, ◌<◌, ◌-◌, ◌^◌, Bool, true, false, ◌↔◌, if◌then◌else◌, nat_lt, List, [], ◌∷◌, length, Option, Some, None, Result, Ok, Err, ℤ, pos, negsuc, ◌≤ℤ◌, ◌<ℤ◌}
+use Rattle.std.specs.Prelude.{◌≡◌, ℕ, ◌≤◌, ◌<◌, ◌-◌, ◌^◌, true, ◌↔◌, if◌then◌else◌, nat_lt, List, [], ◌∷◌, length, Option, Some, None, Result, Ok, Err, ℤ, pos, negsuc, ◌≤ℤ◌, ◌<ℤ◌}
 use Rattle.std.specs.Option.{option_and_then}
 use Rattle.std.specs.List.{Contains, AllByRecursion}
+use Rattle.index_spec.specs.Counts.{HasGroups}
 use Rattle.index_spec.specs.Tokens.{tokens_of, Spells}
 use Rattle.index_spec.specs.Options.{form_of, plain, IsForm}
 use Rattle.index_spec.specs.Meaning.{meaning, times, rises}
@@ -108,3 +109,10 @@ abbrev pub IsToldByText : SpecFault → Type 0
 IsToldByText (fault.Bad kind.Unknown) = ⊥
 IsToldByText (fault.Bad kind.WrongType) = ⊥
 IsToldByText _ = Unit {0}
+
+-- what `bitmap_count` asks holds of each encoding that the grammar gives
+pub HasGroups-given : (e : EncodingSpec) → IsGivenEncoding e → HasGroups e
+HasGroups-given encoding.Equality given = tt
+HasGroups-given encoding.Range given = tt
+HasGroups-given encoding.Interval given = tt
+HasGroups-given (encoding.TwoLevel level ncoarse) given = given.0

@@ -16,6 +16,5 @@ pub use parsing::parse_spec;
 pub use printing::print_spec;
 pub use spec::{Binning, Coarse, EncodingSpec, Spec, SpecFault, SpecKind};
 
-
 #[cfg(test)]
 mod tests;

@@ -12,9 +12,13 @@ use sqlite_items::Items;
 use std::alloc::{AllocError, Global};
 
 const MAX_COUNT: u32 = 100_000;
+
 const MAX_DIGITS: u32 = 18;
+
 const MAX_BOUNDS: usize = 4096;
+
 const LEAST: i128 = -(1 << 63);
+
 const GREATEST: i128 = (1 << 64) - 1;
 
 /// Whether the option's word takes such a value.
@@ -31,7 +35,8 @@ fn fits(setting: &Setting) -> bool
             Word::Start | Word::End | Word::Nbins | Word::Precision | Word::Ncoarse
         ),
         Value::Word(word) => {
-            matches!(setting.name, Word::Coarse) && matches!(word, Word::Equality | Word::Range | Word::Interval)
+            matches!(setting.name, Word::Coarse)
+                && matches!(word, Word::Equality | Word::Range | Word::Interval)
         }
         Value::Numbers(numbers) => matches!(setting.name, Word::Bounds) && !numbers.is_empty(),
     }
@@ -116,7 +121,11 @@ fn coarse_named(settings: &[Setting], name: Word) -> Coarse
 fn within(limit: u32, number: i128) -> u32
     ensures { result ≡ within limit number }
 {
-    if number > 0 && number <= i128::from(limit) { number as u32 } else { 0 }
+    if number > 0 && number <= i128::from(limit) {
+        number as u32
+    } else {
+        0
+    }
 }
 
 #[tactic(auto, unfolding(crate::specs::Meaning::draft_binning))]
@@ -238,7 +247,10 @@ fn is_counted(spec: &Spec) -> bool
 fn rises(numbers: &[i128]) -> bool
     ensures { result ≡ rises numbers.now }
 {
-    numbers.iter().zip(numbers.iter().skip(1)).all(|(low, high)| *low < *high)
+    numbers
+        .iter()
+        .zip(numbers.iter().skip(1))
+        .all(|(low, high)| *low < *high)
 }
 
 fn is_bounded(binning: &Binning) -> bool

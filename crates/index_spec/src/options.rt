@@ -33,7 +33,10 @@ pub(crate) struct Form {
 }
 
 /// Numbers with commas between, up to a closing parenthesis.
-fn numbers_at(alloc: Global, tokens: &[Token]) -> Result<Option<(Items<i128>, &[Token])>, AllocError>
+fn numbers_at(
+    alloc: Global,
+    tokens: &[Token],
+) -> Result<Option<(Items<i128>, &[Token])>, AllocError>
     ensures { IfOk result (λ found. option_map (λ f. (f.0, f.1.now)) found ≡ numbers_at tokens.now) }
 {
     let mut numbers = Items::new(alloc);
@@ -55,9 +58,15 @@ fn value_at(alloc: Global, tokens: &[Token]) -> Result<Option<(Value, &[Token])>
     ensures { IfOk result (λ found. option_map (λ f. (f.0, f.1.now)) found ≡ value_at tokens.now) }
 {
     match tokens {
-        [Token::Equals, Token::Number(number), after @ ..] => Ok(Some((Value::Number(*number), after))),
+        [Token::Equals, Token::Number(number), after @ ..] => Ok(Some((
+            Value::Number(*number),
+            after,
+        ))),
         [Token::Equals, Token::Word(word), after @ ..] => Ok(Some((Value::Word(*word), after))),
-        [Token::Equals, Token::Open, Token::Close, after @ ..] => Ok(Some((Value::Numbers(Items::new(alloc)), after))),
+        [Token::Equals, Token::Open, Token::Close, after @ ..] => Ok(Some((
+            Value::Numbers(Items::new(alloc)),
+            after,
+        ))),
         [Token::Equals, Token::Open, after @ ..] => match numbers_at(alloc, after)? {
             None => Ok(None),
             Some((numbers, after)) => Ok(Some((Value::Numbers(numbers), after))),
@@ -91,7 +100,10 @@ fn after_end(tokens: &[Token]) -> Option<&[Token]>
 }
 
 /// The options up to `/>`, and what follows it.
-fn settings_of(alloc: Global, tokens: &[Token]) -> Result<Option<(Items<Setting>, &[Token])>, AllocError>
+fn settings_of(
+    alloc: Global,
+    tokens: &[Token],
+) -> Result<Option<(Items<Setting>, &[Token])>, AllocError>
     ensures { IfOk result (λ found. option_map (λ f. (f.0, f.1.now)) found ≡ settings_of tokens.now) }
 {
     let mut settings = Items::new(alloc);
@@ -124,7 +136,12 @@ fn plain(alloc: Global, name: Word) -> Result<Items<Setting>, AllocError>
 
 /// The options of the element of this name, if it is at the front, and what follows it.
 #[tactic(auto, unfolding(crate::specs::Options::element_at))]
-fn element_at(alloc: Global, name: Word, default: Word, tokens: &[Token]) -> Result<Option<(Items<Setting>, &[Token])>, AllocError>
+fn element_at(
+    alloc: Global,
+    name: Word,
+    default: Word,
+    tokens: &[Token],
+) -> Result<Option<(Items<Setting>, &[Token])>, AllocError>
     ensures { IfOk result (λ found. option_map (λ f. (f.0, f.1.now)) found ≡ element_at name default tokens.now) }
 {
     if let [Token::Less, Token::Word(word), after @ ..] = tokens {

@@ -22,13 +22,19 @@ fn parsed(alloc: Global, text: &str) -> Result<Spec, SpecFault>
     ensures long { 131072 < length text.now → result ≡ Err (SpecFault.Bad SpecKind.TooLong) }
 {
     if text.len() > MAX_BYTES {
-        return Err(SpecFault::Bad { kind: SpecKind::TooLong });
+        return Err(SpecFault::Bad {
+            kind: SpecKind::TooLong,
+        });
     }
     let Some(tokens) = tokens(alloc, text.as_bytes())? else {
-        return Err(SpecFault::Bad { kind: SpecKind::Syntax });
+        return Err(SpecFault::Bad {
+            kind: SpecKind::Syntax,
+        });
     };
     let Some(form) = form_of(alloc, tokens.as_slice())? else {
-        return Err(SpecFault::Bad { kind: SpecKind::Syntax });
+        return Err(SpecFault::Bad {
+            kind: SpecKind::Syntax,
+        });
     };
     match meaning(alloc, &form)? {
         Ok(spec) => Ok(spec),

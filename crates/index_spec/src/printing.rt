@@ -43,7 +43,10 @@ fn push_binning(out: &mut String, binning: &Binning) -> Result<(), AllocError>
             push_numbers(out, bounds.as_slice())?;
             out.push_str(")")
         }
-        Binning::Width { start, end, count } => write!(out, "start={start} end={end} nbins={count}"),
+        Binning::Width { start, end, count } => write!(
+            out,
+            "start={start} end={end} nbins={count}"
+        ),
         Binning::Weight { count } => write!(out, "nbins={count}"),
         Binning::Precision { digits } => write!(out, "precision={digits}"),
     }

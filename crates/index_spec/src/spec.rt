@@ -93,7 +93,10 @@ impl Binning {
     {
         Ok(match self {
             Binning::Each => Binning::Each,
-            Binning::Bounds(bounds) => Binning::Bounds(Items::from_slice(alloc, bounds.as_slice())?),
+            Binning::Bounds(bounds) => Binning::Bounds(Items::from_slice(
+                alloc,
+                bounds.as_slice(),
+            )?),
             Binning::Width { start, end, count } => Binning::Width {
                 start: *start,
                 end: *end,

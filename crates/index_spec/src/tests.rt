@@ -1,7 +1,6 @@
+use crate::{Binning, Coarse, EncodingSpec, SpecFault, SpecKind, parse_spec, print_spec};
 use std::alloc::{AllocError, Global};
 use std::test::Fail;
-
-use crate::{Binning, Coarse, EncodingSpec, SpecFault, SpecKind, parse_spec, print_spec};
 
 /// The printed form of what the text says, or the refusal.
 fn reprinted(alloc: Global, text: &str) -> Result<Vec<u8>, SpecFault> {
@@ -17,7 +16,13 @@ fn kind(alloc: Global, text: &str) -> Option<SpecKind> {
     }
 }
 
-fn repeated(alloc: Global, start: &str, middle: &str, count: u32, end: &str) -> Result<String, AllocError> {
+fn repeated(
+    alloc: Global,
+    start: &str,
+    middle: &str,
+    count: u32,
+    end: &str,
+) -> Result<String, AllocError> {
     let mut text = String::from_str(alloc, start)?;
     for _ in 0..count {
         text.push_str(middle)?;
@@ -29,7 +34,10 @@ fn repeated(alloc: Global, start: &str, middle: &str, count: u32, end: &str) -> 
 #[test]
 fn prints_one_form(rt: HostRuntime) -> Result<(), Fail> {
     for (text, want) in [
-        ("<binning nbins=3/>", "<binning nbins=3/><encoding equality/>"),
+        (
+            "<binning nbins=3/>",
+            "<binning nbins=3/><encoding equality/>",
+        ),
         ("", "<binning none/><encoding equality/>"),
         (" \t\r\n", "<binning none/><encoding equality/>"),
         ("<encoding range/>", "<binning none/><encoding range/>"),
@@ -87,7 +95,10 @@ fn refuses_with_the_first_cause(rt: HostRuntime) {
         ("<binning none nbins=3/>", SpecKind::Syntax),
         ("<binning start=1 nbins=3/>", SpecKind::Syntax),
         ("<encoding two-level ncoarse=3/>", SpecKind::Syntax),
-        ("<encoding two-level coarse=odd ncoarse=3/>", SpecKind::Syntax),
+        (
+            "<encoding two-level coarse=odd ncoarse=3/>",
+            SpecKind::Syntax,
+        ),
         (
             "<encoding two-level coarse=range coarse=none ncoarse=3/>",
             SpecKind::Syntax,
@@ -131,11 +142,29 @@ fn answers_long_texts(rt: HostRuntime) -> Result<(), Fail> {
         ("", "(", 131_072, "", Some(SpecKind::Syntax)),
         ("", "(", 131_073, "", Some(SpecKind::TooLong)),
         ("", " ", 131_072, "", None),
-        ("<binning nbins=", "9", 100_000, "/>", Some(SpecKind::Number)),
+        (
+            "<binning nbins=",
+            "9",
+            100_000,
+            "/>",
+            Some(SpecKind::Number),
+        ),
         ("<binning nbins=", "0", 100_000, "7/>", None),
         ("<binning ", "none ", 20_000, "/>", Some(SpecKind::Repeated)),
-        ("<binning bounds=(1", ",1", 4_096, ")/>", Some(SpecKind::Bounds)),
-        ("<binning bounds=(", "1,", 60_000, "1)/>", Some(SpecKind::Bounds)),
+        (
+            "<binning bounds=(1",
+            ",1",
+            4_096,
+            ")/>",
+            Some(SpecKind::Bounds),
+        ),
+        (
+            "<binning bounds=(",
+            "1,",
+            60_000,
+            "1)/>",
+            Some(SpecKind::Bounds),
+        ),
         ("", "a", 131_072, "", Some(SpecKind::Syntax)),
         ("", "<", 131_072, "", Some(SpecKind::Syntax)),
     ] {
@@ -192,7 +221,10 @@ fn counts_bitmaps(rt: HostRuntime) {
         assert!(rt; encoding.bitmap_count(bins) == want, "{encoding:?} {bins}");
     }
     let coarse = Coarse::Range;
-    let wide = EncodingSpec::TwoLevel { coarse, ncoarse: 2000 };
+    let wide = EncodingSpec::TwoLevel {
+        coarse,
+        ncoarse: 2000,
+    };
     assert!(rt; wide.bitmap_count(1024) == Some(1024 + 1023));
     assert!(rt; wide.bitmap_count(1025) == None);
     assert!(rt; wide.bitmap_count(2001) == Some(2001 + 1000));

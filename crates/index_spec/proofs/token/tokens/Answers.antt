@@ -1,8 +1,7 @@
-use Rattle.std.proofs.Common.{◌≡◌, ℕ, ◌<◌, Bool, true, false, List, [], ◌∷◌, length, get_or, drop, eqb, sym, ap, ◌∙◌, arith, rules}
-use Rattle.std.specs.Prelude.{Option, Some, None}
+use Rattle.std.proofs.Common.{◌≡◌, ◌<◌, length, sym, ap, ◌∙◌, arith}
+use Rattle.std.specs.Prelude.{None}
 use Rattle.std.proofs.lemmas.Bool.Decides.{nat_tests}
-use Rattle.index_spec.specs.declared.token.Token.{Token}
-use Rattle.index_spec.specs.Tokens.{tokens_of, token_at, is_blank}
+use Rattle.index_spec.specs.Tokens.{tokens_of, token_at}
 use Rattle.index_spec.proofs.Lexing.{before, blank-step, none-step, some-step, all-read, one-more}
 use Rattle.index_spec.proofs.Shorter.{token_at_shorter}
 use Rattle.index_spec.proofs.token.tokens.Goals as goal

@@ -52,8 +52,8 @@ fn numbers_at(
     Ok(None)
 }
 
-#[tactic(auto, unfolding(crate::specs::Options::value_at))]
 /// The value at the front, which may be nothing.
+#[tactic(auto, unfolding(crate::specs::Options::value_at))]
 fn value_at(alloc: Global, tokens: &[Token]) -> Result<Option<(Value, &[Token])>, AllocError>
     ensures { IfOk result (λ found. option_map (λ f. (f.0, f.1.now)) found ≡ value_at tokens.now) }
 {

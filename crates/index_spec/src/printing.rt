@@ -78,8 +78,8 @@ fn push_encoding(out: &mut String, encoding: EncodingSpec) -> Result<(), AllocEr
     }
 }
 
-#[tactic(auto, unfolding(crate::specs::Printed::printed))]
 /// Both elements, their options in a fixed order with one blank between.
+#[tactic(auto, unfolding(crate::specs::Printed::printed))]
 fn print(alloc: Global, spec: &Spec) -> Result<Vec<u8>, AllocError>
     ensures { IfOk result (λ text. text.items ≡ printed spec.now) }
 {

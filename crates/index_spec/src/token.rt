@@ -94,8 +94,8 @@ fn signed(is_negative: bool, magnitude: u128) -> i128
     if is_negative { -number } else { number }
 }
 
-#[tactic(auto, unfolding(crate::specs::Tokens::word_at))]
 /// The word at the front, which begins with a letter, and what follows it.
+#[tactic(auto, unfolding(crate::specs::Tokens::word_at))]
 fn word_at(text: &[u8]) -> Option<(Token, &[u8])>
     ensures { option_map (λ found. (found.0, found.1.now)) result ≡ word_at text.now }
 {
@@ -106,8 +106,8 @@ fn word_at(text: &[u8]) -> Option<(Token, &[u8])>
     }
 }
 
-#[tactic(auto, unfolding(crate::specs::Tokens::number_at))]
 /// The number whose digits are at the front, and what follows it.
+#[tactic(auto, unfolding(crate::specs::Tokens::number_at))]
 fn number_at(is_negative: bool, text: &[u8]) -> Option<(Token, &[u8])>
     ensures { option_map (λ found. (found.0, found.1.now)) result ≡ number_at is_negative text.now }
 {
@@ -119,8 +119,8 @@ fn number_at(is_negative: bool, text: &[u8]) -> Option<(Token, &[u8])>
     Some((Token::Number(signed(is_negative, magnitude(front))), rest))
 }
 
-#[tactic(auto, unfolding(crate::specs::Tokens::token_at))]
 /// The token at the front, which is no blank, and what follows it.
+#[tactic(auto, unfolding(crate::specs::Tokens::token_at))]
 fn token_at(text: &[u8]) -> Option<(Token, &[u8])>
     ensures { option_map (λ found. (found.0, found.1.now)) result ≡ token_at text.now }
 {

@@ -1,0 +1,17 @@
+pub mod Cases
+pub mod Numbers
+pub mod Shorter
+pub mod Lexing
+pub mod Elements
+pub mod Runs
+pub mod Spelled
+pub mod Reread
+pub mod Formed
+pub mod Reformed
+pub mod Members
+pub mod Sets
+pub mod Told
+pub mod Retold
+pub mod Laws
+pub mod Put
+pub mod Again

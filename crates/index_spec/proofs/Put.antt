@@ -1,0 +1,54 @@
+-- Tokens put before a text that is spelled.
+use Rattle.std.proofs.Common.{◌≡◌, ℕ, suc, ◌^◌, ◌≤◌, ◌<◌, min, Bool, true, false, List, [], ◌∷◌, ◌++◌, length, refl, sym, ap, subst, ◌∙◌, append_assoc, arith, rules, ℤ, pos, negsuc}
+use Rattle.std.specs.List.{list_all}
+use Rattle.std.specs.Char.{is_ascii_digit}
+use Rattle.std.specs.Fmt.{decimal, signed_decimal}
+use Rattle.std.proofs.lemmas.Str.Parse.{IsNumeralModel, numerals_by_fold}
+use Rattle.std.proofs.lemmas.Fmt.{digits_decimal, digits_value-decimal, decimal_nonempty, length-decimal-le}
+use Rattle.std.proofs.lemmas.Int.{ints}
+use Rattle.index_spec.specs.declared.token.Token.{Token}
+use Rattle.index_spec.specs.declared.token.Token.TheVariants as t
+use Rattle.index_spec.specs.Tokens.{minus, value_from, magnitude, signed, IsNumeral, IsWritten, StopsAt, EndsAt, Spells}
+use Rattle.index_spec.specs.Language.{IsInRange}
+use Rattle.index_spec.proofs.Spelled.{blank_before}
+
+pub put : (token : Token) (form rest : List ℕ) (ts : List Token) → IsWritten form token → EndsAt token rest → Spells rest ts → Spells (form ++ rest) (token ∷ ts)
+put token form rest ts written ends spells = (rest, (record { blanks = []; form = form; cut = refl; all_blank = refl; written = written; ends = ends }, spells))
+
+pub put_blank : (rest : List ℕ) (ts : List Token) → Spells rest ts → Spells (32 ∷ rest) ts
+put_blank rest ts spells = blank_before 32 rest ts refl spells
+
+abbrev AllDigits : List ℕ → Type 0
+AllDigits digits = list_all is_ascii_digit digits ≡ true
+
+own : IsNumeralModel AllDigits (value_from 0)
+own = numerals_by_fold AllDigits (search rules) value_from (search rules)
+
+decimal_is : (is_negative : Bool) (n : ℕ) (z : ℤ) → n < 2 ^ 64 → z ≡ signed is_negative n → IsNumeral (minus is_negative ++ decimal n) z
+decimal_is is_negative n z small e =
+    let value : value_from 0 (decimal n) ≡ n = digits_value-decimal own n small in
+    let capped : magnitude (decimal n) ≡ n = ap (λ m. min m (2 ^ 64)) value ∙ (omega arith) in
+    record { is_negative = is_negative; digits = decimal n; written = refl; all_digits = digits_decimal own n small; some_digit = decimal_nonempty n small; value = e ∙ ap (signed is_negative) (sym capped) }
+
+pub number_is : (z : ℤ) → IsInRange z → IsNumeral (signed_decimal z) z
+number_is (pos n) range = let high = range.1 in decimal_is false n (pos n) (omega (arith, ints)) refl
+number_is (negsuc n) range = let low = range.0 in decimal_is true (suc n) (negsuc n) (omega (arith, ints)) refl
+
+pub put_number : (z : ℤ) (rest : List ℕ) (ts : List Token) → IsInRange z → StopsAt is_ascii_digit rest → Spells rest ts → Spells (signed_decimal z ++ rest) (t.Number z ∷ ts)
+put_number z rest ts range stops spells = put (t.Number z) (signed_decimal z) rest ts (number_is z range) stops spells
+
+-- the same where more stands behind the number in the text that is followed
+pub put_number_in : (z : ℤ) (more rest : List ℕ) (ts : List Token) → IsInRange z → StopsAt is_ascii_digit (more ++ rest) → Spells (more ++ rest) ts → Spells ((signed_decimal z ++ more) ++ rest) (t.Number z ∷ ts)
+put_number_in z more rest ts range stops spells =
+    subst (λ x. Spells x (t.Number z ∷ ts)) (sym (append_assoc (signed_decimal z) more rest)) (put_number z (more ++ rest) ts range stops spells)
+
+pub count_in_range : (n : ℕ) → n ≤ 100000 → IsInRange (pos n)
+count_in_range n small = (omega (arith, ints), omega (arith, ints))
+
+pub length-number : (z : ℤ) → IsInRange z → length (signed_decimal z) ≤ 20
+length-number (pos n) range = let high = range.1 in let small : n < 2 ^ 64 = omega (arith, ints) in length-decimal-le 20 n (omega arith) (omega arith) small
+length-number (negsuc n) range =
+    let low = range.0 in
+    let small : suc n ≤ 2 ^ 63 = omega (arith, ints) in
+    let l = length-decimal-le 19 (suc n) (omega arith) (omega arith) (omega arith) in
+    omega arith

@@ -110,6 +110,7 @@ files_of s = from_entries s.entries
 abbrev pub reads_in : List Entry → Noted → Option (List Look)
 reads_in es n = if n.over then None else Some (map (look_of es) n.notes)
 
+-- the same of a store
 abbrev pub reads_of : StoreState → Option (List Look)
 reads_of s = reads_in s.entries s.noted
 

@@ -1,6 +1,5 @@
-ghost use Rattle.std.specs.Prelude.{◌≡◌, ◌↔◌, ◌&&◌, IsSome, IfOk, IfSome, IsTrue, length, List, ℕ};
+ghost use Rattle.std.specs.Prelude.{◌≡◌, ◌↔◌, IsSome, IfOk, IfSome, IsTrue};
 ghost use Rattle.std.specs.List.{list_all};
-ghost use Rattle.std.specs.List.{slice_split};
 ghost use Rattle.fb_outside.specs.Names.{IsFileName, IsPath, IsName, is_piece_byte};
 ghost use Rattle.fb_outside.specs.NameTests.{is_piece, are_dots, are_joined, are_pieces};
 
@@ -56,6 +55,7 @@ impl FileName {
         Ok(FileName { text })
     }
 
+    /// The name as text.
     pub fn as_str(&self) -> &str
         ensures bytes { result.now ≡ self.now }
         ensures named { IsFileName result.now }
@@ -70,6 +70,7 @@ impl FileName {
         has_name_form(self.as_str().as_bytes(), PATH_BYTES, PATH_PIECE)
     }
 
+    /// The same name once more.
     pub fn copy(&self, alloc: Global) -> Result<FileName, AllocError>
         ensures { IfOk result (λ name. name ≡ self.now) }
     {

@@ -10,7 +10,8 @@ use std::marker::Model;
 
 const MAX_OFFSET: u64 = (1 << 63) - 1;
 
-/// A store over the files of the runtime: pass `rt.clone()?`. A name is the file's path.
+/// A store over the files of the runtime: pass `rt.clone()?`. A name is the file's path. A `put` makes the
+/// folders that are absent, writes a new file beside the old one, named with a `~` behind, and renames it.
 /// Contracts see it as its count of faults, and it tells nothing of its files.
 #[derive(Drop)]
 pub struct FolderStore<F: Files> {

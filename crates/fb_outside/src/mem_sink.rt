@@ -8,6 +8,7 @@ use std::alloc::{AllocError, Global};
 use std::marker::Model;
 
 /// A sink that keeps what is put, and some of whose calls fail. A call that fails leaves nothing of its piece.
+/// Contracts see it as what was written, and which calls fail.
 #[derive(Debug, Drop)]
 pub struct MemSink {
     written: Vec<u8>,

@@ -7,7 +7,8 @@ use crate::schedule::Schedule;
 use std::alloc::{AllocError, Global};
 use std::marker::Model;
 
-/// A source over bytes in memory, some of whose calls fail.
+/// A source over bytes in memory, some of whose calls fail. Contracts see it as what is left, the most that
+/// a call gives, and which calls fail.
 #[derive(Debug, Drop)]
 pub struct MemSource {
     bytes: Vec<u8>,
@@ -30,7 +31,7 @@ impl Model for MemSource {
 impl MemSource {
     ghost use Rattle.fb_outside.specs.Memory.{uncalled, plain_fail};
 
-    /// Gives these bytes, at most `piece` a call. The calls with these numbers fail.
+    /// Gives these bytes, at most `piece` a call. The calls with the numbers in `fails`, from 0, fail.
     pub fn make(
         alloc: Global,
         bytes: &[u8],

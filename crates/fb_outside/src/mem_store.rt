@@ -17,6 +17,7 @@ use std::marker::Model;
 
 /// A store in memory, some of whose calls fail. Its files are numbered from 0, in the order in which they
 /// were first put. It tells its reads until more were made than it has room for.
+/// Contracts see it as its entries in that order, the notes of its reads, and which calls fail.
 #[derive(Debug, Drop)]
 pub struct MemStore {
     files: Vec<MemFile>,

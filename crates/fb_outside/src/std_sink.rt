@@ -11,7 +11,8 @@ use std::marker::Model;
 
 /// A sink over a writer of the runtime, as standard output: pass `io::writer(&rt)`. A piece is flushed
 /// before its `put` ends.
-/// Contracts see it as its count of faults, and it tells nothing of its bytes.
+/// Contracts see it as the writer and the count of faults. As a sink it tells nothing of its bytes, since
+/// the system's writer doesn't.
 #[derive(Drop)]
 pub struct StdSink<W: Write> {
     writer: W,

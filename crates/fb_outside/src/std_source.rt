@@ -9,7 +9,8 @@ use std::io::Read;
 use std::marker::Model;
 
 /// A source over a reader of the runtime, as standard input: pass `rt.reader()`.
-/// Contracts see it as its count of faults, and it tells nothing of its bytes.
+/// Contracts see it as the reader and the count of faults. As a source it tells nothing of its bytes, since
+/// the system's reader doesn't.
 #[derive(Drop)]
 pub struct StdSource<R: Read> {
     reader: R,

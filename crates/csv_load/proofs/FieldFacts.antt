@@ -12,8 +12,8 @@ use Rattle.fb_types.specs.Field.{field_answer, number_answer, text_answer, trimm
 use Rattle.fb_types.specs.Types.{ends_of}
 use Rattle.fb_types.specs.declared.fields.FieldAnswer.TheVariants as says
 use Rattle.fb_types.specs.declared.types.ColType.{ColType}
-use Rattle.csv_load.specs.Loaded.{all_or_first, behind, field_cell, field_cells, numbered, record_cells, whole_cell, word_cell}
-use Rattle.csv_load.specs.Answers.{IsFieldFault}
+use Rattle.csv_load.specs.Loaded.{all_or_first, behind, field_cell, field_cells, record_cells, whole_cell, word_cell}
+use Rattle.csv_load.specs.Answers.{IsFieldFault, numbered}
 use Rattle.csv_load.specs.declared.fields.FieldFault.{FieldFault}
 use Rattle.csv_load.specs.declared.fields.FieldFault.TheVariants as at_field
 use Rattle.csv_load.specs.declared.fields.RecordKind.{RecordKind}

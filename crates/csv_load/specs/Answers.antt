@@ -1,5 +1,5 @@
 -- What the answers of a load tell of its definition.
-use Rattle.std.specs.Prelude.{◌≡◌, ⊤, ℕ, List, Result, Err}
+use Rattle.std.specs.Prelude.{◌≡◌, ⊤, ℕ, List, Result, Ok, Err}
 use Rattle.fb_types.specs.declared.cells.Cell.{Cell}
 use Rattle.csv_load.specs.Loaded.{Fault}
 use Rattle.csv_load.specs.declared.fields.FieldFault.{FieldFault}
@@ -7,6 +7,11 @@ use Rattle.csv_load.specs.declared.fields.FieldFault.TheVariants as at_field
 use Rattle.csv_load.specs.declared.load.RecordFault.{RecordFault}
 use Rattle.csv_load.specs.declared.load.RecordFault.TheVariants as at_record
 use Rattle.csv_load.specs.declared.fields.RecordKind.{RecordKind}
+
+-- a value, or why it is missing with the number of its place
+abbrev pub numbered : {A E : Type 0} → ℕ → Result A E → Result A (ℕ × E)
+numbered n (Ok value) = Ok value
+numbered n (Err why) = Err (n, why)
 
 -- the answer is the fault that is defined, unless memory ran out
 abbrev pub IsFieldFault : {A : Type 0} → FieldFault → Result A (ℕ × RecordKind) → Type 0

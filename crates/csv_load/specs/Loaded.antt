@@ -39,11 +39,6 @@ field_cells [] fields = []
 field_cells (column ∷ columns) [] = []
 field_cells (column ∷ columns) (field ∷ fields) = field_cell column.ty field ∷ field_cells columns fields
 
--- a value, or why it is missing with the number of its place
-abbrev pub numbered : {A E : Type 0} → ℕ → Result A E → Result A (ℕ × E)
-numbered n (Ok value) = Ok value
-numbered n (Err why) = Err (n, why)
-
 -- a list with these in front, where there is a list
 abbrev pub behind : {A E : Type 0} → List A → Result (List A) E → Result (List A) E
 behind front (Ok rest) = Ok (front ++ rest)

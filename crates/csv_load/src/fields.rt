@@ -2,8 +2,8 @@
 ghost use Rattle.std.specs.Prelude.{◌≡◌, ◌^◌, ◌+◌, ◌<◌, ◌≤◌, Ok, IfOk, IfErr, length};
 ghost use Rattle.csv.specs.Records.{fields_of};
 ghost use Rattle.fb_types.specs.Cells.{CellFits, RecordFits};
-ghost use Rattle.csv_load.specs.Answers.{IsFieldFault};
-ghost use Rattle.csv_load.specs.Loaded.{field_cell, numbered, record_cells, word_cell};
+ghost use Rattle.csv_load.specs.Answers.{IsFieldFault, numbered};
+ghost use Rattle.csv_load.specs.Loaded.{field_cell, record_cells, word_cell};
 ghost use Rattle.csv_load.specs.declared.fields.FieldFault.TheVariants as at_field;
 
 use csv::ByteRecord;

@@ -1,7 +1,7 @@
 -- Names that are put together of a front, a slash and a last piece.
-use Rattle.std.proofs.Common.{◌≡◌, ◌<◌, ◌≤◌, ◌+◌, ℕ, Bool, true, false, List, [], ◌∷◌, ◌++◌, length, eqb, eqb-true, refl, sym, ap, subst, ◌∙◌, arith, length-append, append_assoc, if◌then◌else◌}
+use Rattle.std.proofs.Common.{◌≡◌, ◌<◌, ◌≤◌, ◌+◌, ℕ, true, false, List, [], ◌∷◌, ◌++◌, length, eqb, refl, sym, ap, subst, ◌∙◌, arith, length-append, append_assoc, if◌then◌else◌}
 use Rattle.std.specs.List.{AllByRecursion, join_with_byte}
-use Rattle.fb_outside.specs.Names.{IsPiece, IsName, spelled}
+use Rattle.fb_outside.specs.Names.{IsPiece, IsName}
 use Rattle.fb_outside.proofs.NameLemmas.{no_slash-bytes}
 
 -- no byte is a slash

@@ -6,3 +6,4 @@ pub mod FileLemmas
 pub mod ReadLemmas
 pub mod JoinLemmas
 pub mod KnownLemmas
+mod Rows

@@ -1,5 +1,4 @@
-use Rattle.std.proofs.Common.{◌≡◌, ◌≤◌, ◌+◌, ◌-◌, ◌++◌, take, drop, length, subst, sym, arith}
-use borrow.Rule.Slice.PartMut.{put_mid}
+use Rattle.std.proofs.Common.{◌≤◌, ◌-◌, ◌++◌, take, length, subst, sym, arith}
 use Rattle.std.specs.Io.KnownBytes.{Consumes}
 use Rattle.std.proofs.lemmas.Grind.{common_steps}
 use Rattle.fb_outside.proofs.KnownLemmas.{Consumes-append, front_of_mid}

@@ -1,4 +1,4 @@
-use Rattle.std.proofs.Common.{◌≡◌, ◌+◌, ◌-◌, ◌++◌, take, drop, length, subst, arith}
+use Rattle.std.proofs.Common.{◌-◌, ◌++◌, take, drop, length, subst, arith}
 use Rattle.std.specs.Io.KnownBytes.{Appends}
 use Rattle.std.proofs.lemmas.Grind.{common_steps}
 use Rattle.fb_outside.proofs.KnownLemmas.{Appends-append, longer_front}

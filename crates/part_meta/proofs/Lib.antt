@@ -1,0 +1,3 @@
+pub mod FileNameLemmas
+pub mod LineLemmas
+pub mod PieceLemmas

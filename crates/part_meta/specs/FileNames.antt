@@ -1,0 +1,43 @@
+-- The names of a dataset's files, under its path.
+use Rattle.std.specs.Prelude.{◌≡◌, ◌⊎◌, ℕ, ◌+◌, ◌/◌, ◌%◌, Option, Some, List, [], ◌∷◌, ◌++◌, unwrap_or}
+use lib.Chars.{codes}
+use Rattle.part_meta.specs.declared.names.FileKind.{FileKind}
+use Rattle.part_meta.specs.declared.names.FileKind.TheVariants.{PartText, Values, Mask, Words, Starts, Index}
+
+-- a name in a folder, behind a slash (47)
+abbrev pub under : List ℕ → List ℕ → List ℕ
+under folder leaf = folder ++ 47 ∷ leaf
+
+-- the text that lists a dataset's parts
+unfoldable pub catalog_name : List ℕ → List ℕ
+catalog_name dir = under dir (codes "-catalog.txt")
+
+-- a part's number in four decimal digits
+abbrev pub four_digits : ℕ → List ℕ
+four_digits n = (48 + n / 1000 % 10) ∷ (48 + n / 100 % 10) ∷ (48 + n / 10 % 10) ∷ (48 + n % 10) ∷ []
+
+-- the folder of a part: `p` (112) and its number
+unfoldable pub part_folder : List ℕ → ℕ → List ℕ
+part_folder dir part = under dir (112 ∷ four_digits part)
+
+-- what a file of a part is called in its folder; only the part's own text is of no column
+unfoldable pub leaf : FileKind → List ℕ → List ℕ
+leaf PartText name = codes "-part.txt"
+leaf Values name = name
+leaf Mask name = name ++ codes ".msk"
+leaf Words name = name ++ codes ".dic"
+leaf Starts name = name ++ codes ".sp"
+leaf Index name = name ++ codes ".idx"
+
+unfoldable pub file_name : List ℕ → ℕ → Option (List ℕ) → FileKind → List ℕ
+file_name dir part name kind = under (part_folder dir part) (leaf kind (unwrap_or name []))
+
+-- the values of a column
+abbrev pub values_name : List ℕ → ℕ → List ℕ → List ℕ
+values_name dir part name = file_name dir part (Some name) Values
+
+-- a name of the table: the catalog, or a file of a part, under the path
+abbrev pub IsFileOf : List ℕ → List ℕ → Type 0
+IsFileOf dir file =
+    (file ≡ catalog_name dir)
+    ⊎ ((part : ℕ) × (name : Option (List ℕ)) × (kind : FileKind) × (file ≡ file_name dir part name kind))

@@ -1,0 +1,3 @@
+pub mod FileNames
+pub mod CatalogText
+pub mod LeafParts

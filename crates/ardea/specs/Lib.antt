@@ -1,0 +1,4 @@
+pub mod Load
+pub mod Reading
+pub mod Written
+pub mod Done

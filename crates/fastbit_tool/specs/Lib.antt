@@ -1,0 +1,4 @@
+pub mod Reply
+pub mod Loading
+pub mod Effects
+pub mod Causes

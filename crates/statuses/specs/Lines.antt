@@ -1,0 +1,57 @@
+-- What is printed of a status, and its number.
+use Rattle.std.specs.Prelude.{ℕ, List, [], ◌++◌, decimal}
+use lib.Chars.{codes}
+use Rattle.fb_types.specs.declared.schema_text.SchemaKind.{SchemaKind}
+use Rattle.fb_types.specs.declared.schema_text.SchemaKind.TheVariants.{Empty, TooMany, BadName, BadType, Repeated}
+use Rattle.csv_load.specs.declared.fields.RecordKind.{RecordKind}
+use Rattle.csv_load.specs.declared.fields.RecordKind.TheVariants.{FieldCount, NotWhole, OutOfRange, TextLength}
+use Rattle.statuses.specs.declared.LimitKind.{LimitKind}
+use Rattle.statuses.specs.declared.LimitKind.TheVariants.{Input}
+use Rattle.statuses.specs.declared.Status.{Status}
+use Rattle.statuses.specs.declared.Status.TheVariants.{Done, Usage, BadSchema, BadInput, SchemaDiffers, Limit, ReadFault, StoreFault, SinkFault, OutOfMemory}
+
+-- the number with which the program ends
+abbrev pub code_of : Status → ℕ
+code_of Done = 0
+code_of Usage = 1
+code_of (BadSchema column kind) = 2
+code_of (BadInput number field kind) = 3
+code_of (SchemaDiffers column) = 4
+code_of (Limit what number limit) = 9
+code_of ReadFault = 10
+code_of StoreFault = 11
+code_of SinkFault = 12
+code_of OutOfMemory = 13
+
+-- the names of the kinds
+unfoldable pub schema_word : SchemaKind → List ℕ
+schema_word Empty = codes "Empty"
+schema_word TooMany = codes "TooMany"
+schema_word BadName = codes "BadName"
+schema_word BadType = codes "BadType"
+schema_word Repeated = codes "Repeated"
+
+unfoldable pub record_word : RecordKind → List ℕ
+record_word FieldCount = codes "FieldCount"
+record_word NotWhole = codes "NotWhole"
+record_word OutOfRange = codes "OutOfRange"
+record_word TextLength = codes "TextLength"
+
+unfoldable pub limit_word : LimitKind → List ℕ
+limit_word Input = codes "input"
+
+-- the line of a refusal, ended by a line feed; the other statuses print none
+unfoldable pub line_of : Status → List ℕ
+line_of Usage = codes "error 1 usage\n"
+line_of (BadSchema column kind) =
+    codes "error 2 schema at column " ++ (decimal column ++ (codes " " ++ (schema_word kind ++ codes "\n")))
+line_of (BadInput number field kind) =
+    codes "error 3 record " ++ (decimal number ++ (codes " field " ++ (decimal field ++ (codes " " ++ (record_word kind ++ codes "\n")))))
+line_of (SchemaDiffers column) = codes "error 4 schema differs at column " ++ (decimal column ++ codes "\n")
+line_of (Limit what number limit) =
+    codes "error 9 limit " ++ (limit_word what ++ (codes " " ++ (decimal number ++ (codes " over " ++ (decimal limit ++ codes "\n")))))
+line_of Done = []
+line_of ReadFault = []
+line_of StoreFault = []
+line_of SinkFault = []
+line_of OutOfMemory = []

@@ -2,6 +2,8 @@
 #![tactic(auto)]
 
 mod numbers;
+#[cfg(test)]
+mod tests;
 
 ghost use Rattle.std.specs.Prelude.{◌≡◌, ℤ, ◌≤ℤ◌, List, All, IfOk, IfErr, IsErrOf, IsSome, OnOk, OnErr};
 ghost use Rattle.fb_outside.specs.Causes.{HasCause};

@@ -1,10 +1,9 @@
 -- Names of files tell what they are names of.
-use Rattle.std.proofs.Common.{eqb-true, nat_le, ◌≡◌, ◌≢◌, ◌+◌, ◌/◌, ◌%◌, ◌<◌, ◌≤◌, ◌&&◌, ◌||◌, ◌==◌, not, ℕ, Bool, true, false, List, [], ◌∷◌, ◌++◌, length, IsTrue, Some, None, unwrap_or, refl, sym, ap, subst, ◌∙◌, arith, rules}
+use Rattle.std.proofs.Common.{eqb-true, nat_le, ◌≡◌, ◌≢◌, ◌+◌, ◌&&◌, ◌==◌, ℕ, Bool, true, false, List, [], ◌∷◌, ◌++◌, length, refl, subst, arith}
 use Rattle.std.specs.List.{list_any, list_all}
 use lib.Chars.{codes}
-use Rattle.std.proofs.lemmas.Grind.{common_steps}
 use Rattle.std.proofs.lemmas.List.{append_cancel_right}
-use Rattle.fb_types.specs.Names.{IsColumnName, begins_name, continues_name, has_name_bytes, is_column_name}
+use Rattle.fb_types.specs.Names.{IsColumnName, begins_name, continues_name, has_name_bytes}
 use Rattle.part_meta.specs.FileNames.{under, catalog_name, four_digits, part_folder, leaf, file_name, values_name}
 
 abbrev is_slash : ℕ → Bool

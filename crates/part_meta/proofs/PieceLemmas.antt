@@ -1,20 +1,20 @@
 -- The files' names are names of files, and what they are made of.
-use Rattle.std.proofs.Common.{◌≡◌, ◌≢◌, ◌<◌, ◌≤◌, ◌+◌, ◌/◌, ◌%◌, ◌&&◌, ◌||◌, ◌==◌, not, ℕ, Bool, true, false, List, [], ◌∷◌, ◌++◌, length, IsTrue, Option, Some, None, IsNone, IfSome, option_copied, unwrap_or, Bor, refl, sym, ap, subst, ◌∙◌, arith, nat_le, leb-true, length-append}
+use Rattle.std.proofs.Common.{◌≡◌, ◌≢◌, ◌<◌, ◌≤◌, ◌+◌, ◌/◌, ◌%◌, ◌&&◌, not, ℕ, Bool, true, false, List, [], ◌∷◌, ◌++◌, length, IsTrue, Option, Some, None, IsNone, IfSome, option_copied, unwrap_or, Bor, refl, sym, ap, subst, arith, nat_le, leb-true, length-append}
 use Rattle.std.specs.List.{AllByRecursion, join_with_byte, list_all}
-use Rattle.std.specs.Str.{IsAscii, IsUtf8}
+use Rattle.std.specs.Str.{IsUtf8}
 use Rattle.std.proofs.lemmas.Bool.Decides.{nat_tests}
 use Rattle.std.proofs.lemmas.List.{append-nil}
 use Rattle.std.proofs.lemmas.List.Elements.{All-from_recursion}
 use Rattle.std.proofs.lemmas.Str.{IsUtf8-from_ascii}
 use Rattle.std.proofs.lemmas.Str.Ascii.{IsAscii-from_all}
 use lib.Chars.{codes}
-use Rattle.fb_types.specs.Names.{IsColumnName, begins_name, continues_name, has_name_bytes, is_column_name, is_keyword}
+use Rattle.fb_types.specs.Names.{IsColumnName, begins_name, continues_name, has_name_bytes, is_keyword}
 use Rattle.fb_outside.specs.Names.{IsPiece, IsName, IsPath, IsFileName, is_piece_byte, spelled}
 use Rattle.fb_outside.proofs.NameLemmas.{IsPiece-from_test}
 use Rattle.fb_outside.proofs.JoinLemmas.{IsName-under}
 use Rattle.part_meta.specs.declared.names.FileKind.{FileKind}
 use Rattle.part_meta.specs.declared.names.FileKind.TheVariants.{PartText, Values, Mask, Words, Starts, Index}
-use Rattle.part_meta.specs.FileNames.{under, catalog_name, four_digits, part_folder, leaf, file_name}
+use Rattle.part_meta.specs.FileNames.{catalog_name, four_digits, part_folder, leaf, file_name}
 use Rattle.part_meta.specs.LeafParts.{suffix}
 use Rattle.part_meta.proofs.FileNameLemmas.{and_parts, has_bytes}
 

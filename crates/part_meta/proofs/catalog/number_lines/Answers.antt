@@ -1,4 +1,4 @@
-use Rattle.std.proofs.Common.{◌≡◌, ◌++◌, decimal, string_bytes}
+use Rattle.std.proofs.Common.{◌++◌, decimal, string_bytes}
 use lib.Chars.{codes}
 use Rattle.part_meta.specs.CatalogText.{line, part_line}
 use Rattle.part_meta.proofs.LineLemmas.{lines-step}

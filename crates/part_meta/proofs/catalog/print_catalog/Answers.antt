@@ -1,4 +1,4 @@
-use Rattle.std.proofs.Common.{◌≡◌, ◌++◌, ◌∙◌, decimal, refl, rules, sym}
+use Rattle.std.proofs.Common.{◌≡◌, ◌++◌, decimal, refl}
 use Rattle.std.specs.List.{flat_map}
 use lib.Chars.{codes}
 use Rattle.fb_types.specs.SchemaText.{schema_text}

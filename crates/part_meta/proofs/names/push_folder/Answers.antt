@@ -1,4 +1,4 @@
-use Rattle.std.proofs.Common.{◌≡◌, append_assoc, refl}
+use Rattle.std.proofs.Common.{append_assoc, refl}
 use Rattle.part_meta.specs.FileNames.{part_folder}
 use Rattle.part_meta.proofs.names.push_folder.Goals as goal
 

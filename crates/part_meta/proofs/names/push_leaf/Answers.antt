@@ -1,4 +1,4 @@
-use Rattle.std.proofs.Common.{◌≡◌, append_assoc, refl}
+use Rattle.std.proofs.Common.{append_assoc, refl}
 use Rattle.part_meta.proofs.PieceLemmas.{leaf_is}
 use Rattle.part_meta.proofs.names.push_leaf.Goals as goal
 

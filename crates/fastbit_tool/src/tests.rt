@@ -6,6 +6,7 @@ use super::*;
 use fb_outside::{FailAt, MemSink, MemSource, MemStore};
 use std::alloc::AllocError;
 use std::marker::Brand;
+use std::process::Abort;
 use std::sync::ledger::Blank;
 use std::test::Fail;
 
@@ -30,11 +31,59 @@ fn answer<L: Ledger>(
     Ok(run(alloc, &owned, input, store, out, &mut steps).code())
 }
 
-/// Whether the store has a file of this name with these bytes.
-fn has(store: &MemStore, name: &str, bytes: &[u8]) -> bool {
+/// What is run, and what its status's number and its printed text must be.
+#[derive(Drop)]
+struct Case<'a> {
+    words: [&'a str; 5],
+    input: &'a [u8],
+    source_fails: &'a [u64],
+    sink_fails: &'a [u64],
+    code: u8,
+    printed: &'a str,
+}
+
+fn expect<R: Abort + AllocGlobal>(
+    rt: &R,
+    store: &mut MemStore,
+    case: &Case,
+) -> Result<(), AllocError> {
+    let mut source = MemSource::make(rt.alloc(), case.input, 1 << 16, case.source_fails)?;
+    let mut out = MemSink::make(rt.alloc(), case.sink_fails)?;
+    let words = case.words;
+    let code = answer::<Brand>(
+        rt.alloc(),
+        Blank::new(1),
+        &words,
+        &mut source,
+        store,
+        &mut out,
+    )?;
+    assert!(rt; code == case.code, "{}", case.printed);
+    assert!(rt;
+        out.written() == case.printed.as_bytes(),
+        "{}",
+        case.printed
+    );
+    Ok(())
+}
+
+/// A case in which nothing fails.
+fn case<'a>(words: [&'a str; 5], input: &'a [u8], code: u8, printed: &'a str) -> Case<'a> {
+    Case {
+        words,
+        input,
+        source_fails: &[],
+        sink_fails: &[],
+        code,
+        printed,
+    }
+}
+
+/// The file of this name has these bytes.
+fn expect_file<R: Abort>(rt: &R, store: &MemStore, name: &str, bytes: &[u8]) {
     match store.file(name) {
-        Some(have) => have == bytes,
-        None => false,
+        Some(have) => assert!(rt; have == bytes, "{name}"),
+        None => rt.panic("no such file"),
     }
 }
 
@@ -44,12 +93,64 @@ const LOAD_U: [&str; 5] = ["ardea", "-d", "u", "-m", "a:int"];
 
 const CATALOG: &[u8] = b"fastbit catalog 1\nschema a:int\nnext 1\npart 0\n";
 
+const DIFFERS: &str = "error 4 schema differs at column 0\n";
+
 #[test]
-fn loads_once_and_refuses_bad_input(rt: HostRuntime) -> Result<(), Fail> {
+fn loads_once(rt: HostRuntime) -> Result<(), Fail> {
+    let mut store = MemStore::make(rt.alloc(), &[], 0)?;
+    expect(
+        &rt,
+        &mut store,
+        &make_case(LOAD_T, b"1\n2\n3\n", 0, "loaded 3 rows\n"),
+    )?;
+    expect(&rt, &mut store, &make_case(LOAD_T, b"4\n", 4, DIFFERS))?;
+    expect_file(&rt, &store, "t/-catalog.txt", CATALOG);
+    expect_file(
+        &rt,
+        &store,
+        "t/p0000/a",
+        b"\x01\x00\x00\x00\x02\x00\x00\x00\x03\x00\x00\x00",
+    );
+    expect(
+        &rt,
+        &mut store,
+        &make_case(
+            ["ardea", "-d", "/d/e", "-m", "A:int"],
+            b"",
+            0,
+            "loaded 0 rows\n",
+        ),
+    )?;
+    expect_file(
+        &rt,
+        &store,
+        "/d/e/-catalog.txt",
+        b"fastbit catalog 1\nschema a:int\nnext 0\n",
+    );
+    expect(
+        &rt,
+        &mut store,
+        &make_case(
+            LOAD_U,
+            b" -2147483648\t\r\n\n+2147483647",
+            0,
+            "loaded 2 rows\n",
+        ),
+    )?;
+    expect_file(
+        &rt,
+        &store,
+        "u/p0000/a",
+        b"\x00\x00\x00\x80\xff\xff\xff\x7f",
+    );
+    assert!(rt; store.name(5).is_none(), "no other file is written");
+    Ok(())
+}
+
+#[test]
+fn refuses_and_writes_nothing(rt: HostRuntime) -> Result<(), Fail> {
     let mut store = MemStore::make(rt.alloc(), &[], 0)?;
     for (words, input, code, printed) in [
-        (LOAD_T, "1\n2\n3\n", 0, "loaded 3 rows\n"),
-        (LOAD_T, "4\n", 4, "error 4 schema differs at column 0\n"),
         (
             LOAD_U,
             "1\n\"\"\n",
@@ -110,77 +211,14 @@ fn loads_once_and_refuses_bad_input(rt: HostRuntime) -> Result<(), Fail> {
             1,
             "error 1 usage\n",
         ),
-        (
-            ["ardea", "-d", "u", "-m", "-a"],
-            "1\n",
-            1,
-            "error 1 usage\n",
-        ),
-        (
-            ["ibis", "-d", "u", "-m", "a:int"],
-            "1\n",
-            1,
-            "error 1 usage\n",
-        ),
     ] {
-        let mut source = MemSource::make(rt.alloc(), input.as_bytes(), 2, &[])?;
-        let mut out = MemSink::make(rt.alloc(), &[])?;
-        let got = answer::<Brand>(
-            rt.alloc(),
-            Blank::new(1),
-            &words,
-            &mut source,
+        expect(
+            &rt,
             &mut store,
-            &mut out,
+            &make_case(words, input.as_bytes(), code, printed),
         )?;
-        assert_eq!(rt; got, code, "{input}");
-        assert_eq!(rt; out.written(), printed.as_bytes(), "{input}");
     }
-    assert!(rt; has(&store, "t/-catalog.txt", CATALOG));
-    assert!(rt;
-        has(
-            &store,
-            "t/p0000/a",
-            b"\x01\x00\x00\x00\x02\x00\x00\x00\x03\x00\x00\x00"
-        )
-    );
-    assert!(rt; store.name(2).is_none(), "only the first load writes");
-    Ok(())
-}
-
-#[test]
-fn loads_no_records_and_the_ends_of_the_type(rt: HostRuntime) -> Result<(), Fail> {
-    let mut store = MemStore::make(rt.alloc(), &[], 0)?;
-    for (words, input, printed) in [
-        (
-            ["ardea", "-d", "/d/e", "-m", "A:int"],
-            "",
-            "loaded 0 rows\n",
-        ),
-        (LOAD_T, " -2147483648\t\r\n\n+2147483647", "loaded 2 rows\n"),
-    ] {
-        let mut source = MemSource::make(rt.alloc(), input.as_bytes(), 3, &[])?;
-        let mut out = MemSink::make(rt.alloc(), &[])?;
-        let got = answer::<Brand>(
-            rt.alloc(),
-            Blank::new(1),
-            &words,
-            &mut source,
-            &mut store,
-            &mut out,
-        )?;
-        assert_eq!(rt; got, 0, "{input}");
-        assert_eq!(rt; out.written(), printed.as_bytes(), "{input}");
-    }
-    assert!(rt;
-        has(
-            &store,
-            "/d/e/-catalog.txt",
-            b"fastbit catalog 1\nschema a:int\nnext 0\n"
-        )
-    );
-    assert!(rt; has(&store, "t/p0000/a", b"\x00\x00\x00\x80\xff\xff\xff\x7f"));
-    assert!(rt; store.name(3).is_none());
+    assert!(rt; store.name(0).is_none(), "a refused load writes nothing");
     Ok(())
 }
 
@@ -191,30 +229,22 @@ fn reads_as_many_bytes_as_the_limit(rt: HostRuntime) -> Result<(), Fail> {
     for _ in 0..500_000 {
         input.extend_from_slice(b"1\n")?;
     }
-    for (words, more, code, printed) in [
-        (LOAD_T, b"".as_slice(), 0, "loaded 500000 rows\n"),
-        (
+    expect(
+        &rt,
+        &mut store,
+        &make_case(LOAD_T, &input, 0, "loaded 500000 rows\n"),
+    )?;
+    input.push(b'\n')?;
+    expect(
+        &rt,
+        &mut store,
+        &make_case(
             LOAD_U,
-            b"\n".as_slice(),
+            &input,
             9,
             "error 9 limit input 1000001 over 1000000\n",
         ),
-    ] {
-        input.extend_from_slice(more)?;
-        let mut source = MemSource::make(rt.alloc(), &input, 1 << 16, &[])?;
-        let mut out = MemSink::make(rt.alloc(), &[])?;
-        let got = answer::<Brand>(
-            rt.alloc(),
-            Blank::new(1),
-            &words,
-            &mut source,
-            &mut store,
-            &mut out,
-        )?;
-        assert_eq!(rt; got, code);
-        assert_eq!(rt; out.written(), printed.as_bytes());
-    }
-    assert!(rt; has(&store, "t/-catalog.txt", CATALOG));
+    )?;
     Ok(())
 }
 
@@ -222,67 +252,33 @@ fn reads_as_many_bytes_as_the_limit(rt: HostRuntime) -> Result<(), Fail> {
 fn a_failing_store_leaves_the_old_table_or_the_new_one(rt: HostRuntime) -> Result<(), Fail> {
     for (call, keep_new, code, printed) in [
         (0, false, 0, "loaded 1 rows\n"),
-        (1, false, 0, "loaded 1 rows\n"),
         (1, true, 0, "loaded 1 rows\n"),
         (2, false, 0, "loaded 1 rows\n"),
-        (2, true, 4, "error 4 schema differs at column 0\n"),
+        (2, true, 4, DIFFERS),
     ] {
         let mut store = MemStore::make(rt.alloc(), &[FailAt { call, keep_new }], 0)?;
-        let mut source = MemSource::make(rt.alloc(), b"7\n", 2, &[])?;
-        let mut out = MemSink::make(rt.alloc(), &[])?;
-        let got = answer::<Brand>(
-            rt.alloc(),
-            Blank::new(1),
-            &LOAD_T,
-            &mut source,
-            &mut store,
-            &mut out,
-        )?;
-        assert_eq!(rt; got, 11, "call {call}");
-        assert_eq!(rt; out.written(), b"".as_slice(), "call {call}");
-        let mut source = MemSource::make(rt.alloc(), b"8\n", 2, &[])?;
-        let got = answer::<Brand>(
-            rt.alloc(),
-            Blank::new(1),
-            &LOAD_T,
-            &mut source,
-            &mut store,
-            &mut out,
-        )?;
-        assert_eq!(rt; got, code, "after call {call}");
-        assert_eq!(rt; out.written(), printed.as_bytes(), "after call {call}");
-        let kept = if code == 0 {
-            b"\x08\x00\x00\x00"
-        } else {
-            b"\x07\x00\x00\x00"
-        };
-        assert!(rt; has(&store, "t/p0000/a", kept), "after call {call}");
-        assert!(rt; has(&store, "t/-catalog.txt", CATALOG), "after call {call}");
+        expect(&rt, &mut store, &make_case(LOAD_T, b"7\n", 11, ""))?;
+        expect(&rt, &mut store, &make_case(LOAD_T, b"7\n", code, printed))?;
+        expect_file(&rt, &store, "t/p0000/a", b"\x07\x00\x00\x00");
+        expect_file(&rt, &store, "t/-catalog.txt", CATALOG);
     }
     Ok(())
 }
 
 #[test]
 fn a_failing_input_or_output_has_its_status(rt: HostRuntime) -> Result<(), Fail> {
-    for (source_fails, sink_fails, code, rests) in [
-        ([0].as_slice(), [].as_slice(), 10, false),
-        ([1].as_slice(), [].as_slice(), 10, false),
-        ([].as_slice(), [0].as_slice(), 12, true),
-    ] {
-        let mut store = MemStore::make(rt.alloc(), &[], 0)?;
-        let mut source = MemSource::make(rt.alloc(), b"7\n", 1, source_fails)?;
-        let mut out = MemSink::make(rt.alloc(), sink_fails)?;
-        let got = answer::<Brand>(
-            rt.alloc(),
-            Blank::new(1),
-            &LOAD_T,
-            &mut source,
-            &mut store,
-            &mut out,
-        )?;
-        assert_eq!(rt; got, code);
-        assert_eq!(rt; out.written(), b"".as_slice());
-        assert!(rt; has(&store, "t/-catalog.txt", CATALOG) == rests);
-    }
+    let mut store = MemStore::make(rt.alloc(), &[], 0)?;
+    let unread = Case {
+        source_fails: &[0],
+        ..make_case(LOAD_T, b"7\n", 10, "")
+    };
+    expect(&rt, &mut store, &unread)?;
+    assert!(rt; store.name(0).is_none());
+    let unprinted = Case {
+        sink_fails: &[0],
+        ..make_case(LOAD_T, b"7\n", 12, "")
+    };
+    expect(&rt, &mut store, &unprinted)?;
+    expect_file(&rt, &store, "t/-catalog.txt", CATALOG);
     Ok(())
 }

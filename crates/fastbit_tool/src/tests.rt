@@ -68,7 +68,7 @@ fn expect<R: Abort + AllocGlobal>(
 }
 
 /// A case in which nothing fails.
-fn case<'a>(words: [&'a str; 5], input: &'a [u8], code: u8, printed: &'a str) -> Case<'a> {
+fn make_case<'a>(words: [&'a str; 5], input: &'a [u8], code: u8, printed: &'a str) -> Case<'a> {
     Case {
         words,
         input,

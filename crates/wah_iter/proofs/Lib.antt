@@ -1,0 +1,4 @@
+pub mod PlacesLaws
+pub mod CountLaws
+pub mod AppendLaws
+pub mod RowLaws

@@ -2,3 +2,4 @@ pub mod PlacesLaws
 pub mod CountLaws
 pub mod AppendLaws
 pub mod RowLaws
+pub mod WalkLaws

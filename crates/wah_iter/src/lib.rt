@@ -4,6 +4,9 @@
 mod appender;
 mod counts;
 mod making;
+mod piece;
+mod walks;
 
 pub use counts::{count_ones, get};
 pub use making::{concat, from_rows, slice};
+pub use walks::{OneWalk, ones};

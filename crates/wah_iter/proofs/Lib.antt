@@ -3,3 +3,4 @@ pub mod CountLaws
 pub mod AppendLaws
 pub mod RowLaws
 pub mod WalkLaws
+pub mod RunLaws

@@ -9,7 +9,7 @@ use Rattle.std.specs.Int.Count.{count_leading_zeros}
 use Rattle.wah_words.specs.Places.{places}
 use Rattle.wah_words.proofs.PlacesLemmas.{length-places, places-zeros}
 use Rattle.wah_iter.specs.Rows.{rows_from}
-use Rattle.wah_iter.specs.Walks.{rows_left}
+use Rattle.wah_iter.specs.Walks.{rows_left, IsTop}
 use Rattle.wah_iter.proofs.PlacesLaws.{places-cat}
 use Rattle.wah_iter.proofs.RowLaws.{rows_from-append, rows_from-zeros, rows_one}
 
@@ -55,13 +55,6 @@ tail_rows row bits count end h few =
     word_rows row end (places 31 (bits * 2 ^ (31 - count) % 4294967296)) ∙ ap (rows_from row) (tail_places bits count h few) ∙ rows_from-append row (places count bits) (places (31 - count) 0) ∙ ap (λ l. rows_from row (places count bits) ++ l) (rows-zero (row + length (places count bits)) (31 - count)) ∙ append-nil (rows_from row (places count bits))
 
 -- ---- the highest place
-
--- z zeros are above the highest place
-pub record IsTop (word z : ℕ) : Type 0 where
-  pub some : 1 ≤ z
-  pub few : z ≤ 31
-  pub low : 2 ^ (31 - z) ≤ word
-  pub high : word < 2 ^ (31 - z) + 2 ^ (31 - z)
 
 pub is_top : (word : ℕ) → 0 < word → word < 2147483648 → IsTop word (count_leading_zeros 32 word)
 is_top word some fits =

@@ -9,4 +9,4 @@ mod walks;
 
 pub use counts::{count_ones, get};
 pub use making::{concat, from_rows, slice};
-pub use walks::{OneWalk, ones};
+pub use walks::{OneWalk, RowRuns, ones, row_runs};

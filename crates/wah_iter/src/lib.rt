@@ -10,3 +10,6 @@ mod walks;
 pub use counts::{count_ones, get};
 pub use making::{concat, from_rows, slice};
 pub use walks::{OneWalk, RowRuns, ones, row_runs};
+
+#[cfg(test)]
+mod tests;

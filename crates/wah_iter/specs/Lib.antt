@@ -1,0 +1,4 @@
+pub mod Runs
+pub mod Appended
+pub mod Rows
+pub mod Walks

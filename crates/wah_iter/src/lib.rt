@@ -1,0 +1,15 @@
+//! Counts, places, joins and parts of compressed vectors, and vectors made from rows, by words and never by values.
+#![tactic(auto)]
+
+mod appender;
+mod counts;
+mod making;
+mod piece;
+mod walks;
+
+pub use counts::{count_ones, get};
+pub use making::{concat, from_rows, slice};
+pub use walks::{OneWalk, RowRuns, ones, row_runs};
+
+#[cfg(test)]
+mod tests;

@@ -1,0 +1,28 @@
+-- Operations on two lists of truth values, place by place.
+use Rattle.std.specs.Prelude.{ℕ, Bool, true, false, not, List, [], ◌∷◌}
+
+-- the operation at each place that both lists have
+unfoldable pub each_place : (Bool → Bool → Bool) → List Bool → List Bool → List Bool
+each_place op [] b = []
+each_place op (x ∷ a) [] = []
+each_place op (x ∷ a) (y ∷ b) = op x y ∷ each_place op a b
+
+-- ---- the four operations
+
+abbrev pub and : Bool → Bool → Bool
+and true y = y
+and false y = false
+
+abbrev pub or : Bool → Bool → Bool
+or true y = true
+or false y = y
+
+-- exactly one
+abbrev pub xor : Bool → Bool → Bool
+xor true y = not y
+xor false y = y
+
+-- the first without the second
+abbrev pub and_not : Bool → Bool → Bool
+and_not true y = not y
+and_not false y = false

@@ -1,0 +1,7 @@
+//! Logic of two compressed vectors in lockstep: and, or, xor and and-not over words, in at most as many steps as the
+//! two vectors have words. Nothing here expands a vector.
+#![tactic(auto)]
+
+mod ops;
+
+pub use ops::{And, AndNot, BitOp, Or, Xor};

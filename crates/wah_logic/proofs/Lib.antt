@@ -1,1 +1,5 @@
 pub mod OpsLemmas
+pub mod WalkLemmas
+pub mod JoinLemmas
+pub mod LogicLemmas
+pub mod OnesLemmas

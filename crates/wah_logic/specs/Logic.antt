@@ -1,5 +1,5 @@
 -- Operations on two lists of truth values, place by place.
-use Rattle.std.specs.Prelude.{ℕ, Bool, true, false, not, List, [], ◌∷◌}
+use Rattle.std.specs.Prelude.{ℕ, Bool, true, false, not, List, [], ◌∷◌, count_by}
 
 -- the operation at each place that both lists have
 unfoldable pub each_place : (Bool → Bool → Bool) → List Bool → List Bool → List Bool
@@ -26,3 +26,7 @@ xor false y = y
 abbrev pub and_not : Bool → Bool → Bool
 and_not true y = not y
 and_not false y = false
+
+-- how many are true
+abbrev pub ones : List Bool → ℕ
+ones v = count_by (λ b. b) v

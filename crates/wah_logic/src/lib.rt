@@ -2,6 +2,10 @@
 //! two vectors have words. Nothing here expands a vector.
 #![tactic(auto)]
 
+mod logic;
 mod ops;
+mod side;
+mod turn;
 
+pub use logic::{combine, common};
 pub use ops::{And, AndNot, BitOp, Or, Xor};

@@ -3,3 +3,4 @@ pub mod WalkLemmas
 pub mod JoinLemmas
 pub mod LogicLemmas
 pub mod OnesLemmas
+pub mod NotLemmas

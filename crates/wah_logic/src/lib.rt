@@ -7,5 +7,5 @@ mod ops;
 mod side;
 mod turn;
 
-pub use logic::{combine, common};
+pub use logic::{combine, common, complement};
 pub use ops::{And, AndNot, BitOp, Or, Xor};

@@ -1,5 +1,5 @@
 //! Operations on whole vectors.
-ghost use Rattle.std.specs.Prelude.{◌≡◌, ◌+◌, ◌%◌, ◌<◌, ◌≤◌, [], ◌++◌, length};
+ghost use Rattle.std.specs.Prelude.{◌≡◌, ◌+◌, ◌%◌, ◌<◌, ◌≤◌, not, map, [], ◌++◌, length, IfOk};
 ghost use Rattle.wah_words.specs.Spelling.{words_of};
 ghost use Rattle.wah_words.specs.Left.{run_values};
 ghost use Rattle.wah_logic.specs.Logic.{each_place, and, ones};
@@ -8,6 +8,7 @@ ghost use Rattle.wah_logic.specs.Rest.{IsPart};
 use crate::ops::{And, BitOp};
 use crate::side::Side;
 use crate::turn::next_run;
+use std::alloc::{AllocError, Global};
 use std::sync::ledger::Ledger;
 use steps::Steps;
 use wah_words::{Builder, Run, Wah};
@@ -76,4 +77,39 @@ pub fn common<L: Ledger>(a: &Wah, b: &Wah, steps: &mut Steps<L>) -> u64
         count += ones_of(run);
     }
     u64::from(count)
+}
+
+/// The run with each value turned.
+#[inline(always)]
+fn turned_run(run: Run) -> Run
+    requires part { IsPart run [] }
+    ensures values { run_values result ≡ map not (run_values run) }
+    ensures part { IsPart result [] }
+{
+    match run {
+        Run::Fill { bit, groups } => Run::Fill { bit: !bit, groups },
+        Run::Literal(word) => Run::Literal(0x7FFF_FFFF - word),
+        Run::Tail { bits, count } => Run::Tail {
+            bits: (1 << count) - 1 - bits,
+            count,
+        },
+    }
+}
+
+/// True where the vector is false.
+pub fn complement<L: Ledger>(
+    alloc: Global,
+    a: &Wah,
+    steps: &mut Steps<L>,
+) -> Result<Wah, AllocError>
+    ensures values { IfOk result (λ v. v ≡ map not a.now) }
+    ensures words { IfOk result (λ v. words_of v ≤ words_of a.now) }
+    ensures steps { steps.new ≤ steps.old + words_of a.now }
+{
+    let mut out = Builder::with_room(alloc, a.words())?;
+    let mut x = Side::over(a);
+    while let Some(run) = x.take(steps) {
+        push_run(&mut out, turned_run(run));
+    }
+    Ok(out.finish())
 }

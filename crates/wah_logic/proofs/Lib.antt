@@ -4,3 +4,4 @@ pub mod JoinLemmas
 pub mod LogicLemmas
 pub mod OnesLemmas
 pub mod NotLemmas
+pub mod UnionLemmas

@@ -6,6 +6,8 @@ mod logic;
 mod ops;
 mod side;
 mod turn;
+mod unions;
 
 pub use logic::{combine, common, complement};
 pub use ops::{And, AndNot, BitOp, Or, Xor};
+pub use unions::or_many;

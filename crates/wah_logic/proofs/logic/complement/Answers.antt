@@ -1,9 +1,7 @@
-use Rattle.std.proofs.Common.{◌≡◌, ◌+◌, ◌%◌, ◌<◌, ◌≤◌, not, map, [], ◌++◌, length, length-append, Some, None, refl, sym, ap, ◌∙◌, arith}
+use Rattle.std.proofs.Common.{◌≡◌, ◌%◌, not, length, length-append, refl, ap, ◌∙◌, arith}
 use Rattle.std.proofs.lemmas.List.{length-map}
-use Rattle.wah_words.specs.Spelling.{words_of}
 use Rattle.wah_words.specs.Left.{run_values}
 use Rattle.wah_words.proofs.SpellingLemmas.{words_of-nil}
-use Rattle.wah_logic.specs.Rest.{looks, Takes, IsPart}
 use Rattle.wah_logic.proofs.WalkLemmas.{taken, length-taken, length-run_values}
 use Rattle.wah_logic.proofs.LogicLemmas.{aligned_after, some_values}
 use Rattle.wah_logic.proofs.NotLemmas.{not_before, not_grows}

@@ -1,6 +1,5 @@
-use Rattle.std.proofs.Common.{◌≡◌, ◌-◌, ◌*◌, not, map, ap, sym, ◌∙◌, arith}
+use Rattle.std.proofs.Common.{◌-◌, ◌*◌, not, map, ap, sym, ◌∙◌, arith}
 use Rattle.wah_words.specs.Left.{run_values}
-use Rattle.wah_logic.specs.Rest.{IsPart}
 use Rattle.wah_logic.proofs.NotLemmas.{places_not, replicate_not, tail_not}
 use Rattle.wah_logic.proofs.logic.turned_run.Goals as goal
 

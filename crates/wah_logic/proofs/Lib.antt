@@ -5,3 +5,4 @@ pub mod LogicLemmas
 pub mod OnesLemmas
 pub mod NotLemmas
 pub mod UnionLemmas
+pub mod PairLemmas

@@ -13,3 +13,6 @@ pub use lockstep::{Lockstep, Pair};
 pub use logic::{combine, common, complement};
 pub use ops::{And, AndNot, BitOp, Or, Xor};
 pub use unions::or_many;
+
+#[cfg(test)]
+mod tests;

@@ -1,4 +1,4 @@
-use Rattle.std.proofs.Common.{◌+◌, arith}
+use Rattle.std.proofs.Common.{arith}
 use Rattle.wah_words.proofs.SpellingLemmas.{words_of_le}
 use Rattle.wah_logic.proofs.tests.combined.Goals as goal
 

@@ -1,0 +1,5 @@
+use Rattle.wah_logic.proofs.OpsLemmas.{places_and}
+use Rattle.wah_logic.proofs.ops.AndBitOp.on_word.Goals as goal
+
+pub returns-clause-places : goal.returns-clause-places
+returns-clause-places c = λ n h k. places_and n c.args.a c.args.b

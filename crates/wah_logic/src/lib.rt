@@ -1,0 +1,18 @@
+//! Logic of two compressed vectors in lockstep: and, or, xor and and-not over words, in at most as many steps as the
+//! two vectors have words. Nothing here expands a vector.
+#![tactic(auto)]
+
+mod lockstep;
+mod logic;
+mod ops;
+mod side;
+mod turn;
+mod unions;
+
+pub use lockstep::{Lockstep, Pair};
+pub use logic::{combine, common, complement};
+pub use ops::{And, AndNot, BitOp, Or, Xor};
+pub use unions::or_many;
+
+#[cfg(test)]
+mod tests;

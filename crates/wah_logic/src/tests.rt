@@ -1,0 +1,259 @@
+ghost use Rattle.std.specs.Prelude.{◌≡◌, ◌+◌, ◌<◌, ◌≤◌, length};
+
+use super::*;
+use std::alloc::{AllocError, Global};
+use std::marker::Brand;
+use std::sync::ledger::{Blank, Ledger};
+use std::test::Fail;
+use steps::Steps;
+use wah_words::{Builder, MAX_LEN, Wah};
+
+/// The list of these runs of values.
+fn listed(alloc: Global, runs: &[(bool, u32)]) -> Result<Vec<bool>, AllocError> {
+    let mut values = Vec::new(alloc);
+    for (value, count) in runs {
+        for _ in 0..*count {
+            values.push(*value)?;
+        }
+    }
+    Ok(values)
+}
+
+/// The vector of these values, where there is room for them.
+fn built(alloc: Global, values: &[bool]) -> Result<Option<Wah>, AllocError> {
+    let mut builder = Builder::with_room(alloc, 16)?;
+    for value in values {
+        if builder.spare() == 0 || builder.len() >= MAX_LEN {
+            return Ok(None);
+        }
+        builder.push_bit(*value);
+    }
+    Ok(Some(builder.finish()))
+}
+
+/// The vector of the operation, place by place.
+fn plain<O: BitOp>(alloc: Global, a: &[bool], b: &[bool]) -> Result<Option<Wah>, AllocError> {
+    let mut values = Vec::new(alloc);
+    for (x, y) in a.iter().zip(b) {
+        values.push(O::on_bit(*x, *y))?;
+    }
+    built(alloc, &values)
+}
+
+/// The bytes of the operation on two vectors.
+fn combined<O: BitOp, L: Ledger>(
+    alloc: Global,
+    a: &Wah,
+    b: &Wah,
+    steps: &mut Steps<L>,
+) -> Result<Vec<u8>, AllocError>
+    requires { length a.now ≡ length b.now }
+{
+    let out = Builder::with_room(alloc, a.words() + b.words())?;
+    combine::<O, L>(a, b, out, steps).to_bytes(alloc, steps)
+}
+
+/// Whether the operation on the vectors of two lists has the bytes of the vector of the operation on the lists.
+fn agrees<O: BitOp, L: Ledger>(
+    alloc: Global,
+    a: &[bool],
+    b: &[bool],
+    steps: &mut Steps<L>,
+) -> Result<bool, AllocError> {
+    let Some(x) = built(alloc, a)? else {
+        return Ok(false);
+    };
+    let Some(y) = built(alloc, b)? else {
+        return Ok(false);
+    };
+    let Some(want) = plain::<O>(alloc, a, b)? else {
+        return Ok(false);
+    };
+    if x.len() != y.len() {
+        return Ok(false);
+    }
+    let bytes = combined::<O, L>(alloc, &x, &y, steps)?;
+    Ok(bytes == want.to_bytes(alloc, steps)?)
+}
+
+/// Whether all four operations agree with the lists.
+fn all_agree<L: Ledger>(
+    blank: Blank,
+    alloc: Global,
+    a: &[bool],
+    b: &[bool],
+) -> Result<bool, AllocError>
+    requires ledger { blank.name ≡ L.name }
+    requires parts { blank.parts ≡ L.parts }
+    requires some { 0 < blank.parts }
+{
+    let mut steps = Steps::<L>::new(blank);
+    Ok(
+        agrees::<And, L>(alloc, a, b, &mut steps)?
+            && agrees::<Or, L>(alloc, a, b, &mut steps)?
+            && agrees::<Xor, L>(alloc, a, b, &mut steps)?
+            && agrees::<AndNot, L>(alloc, a, b, &mut steps)?,
+    )
+}
+
+/// What the operations give of two vectors: the bytes of the and, of the complement of the first and of the union of
+/// both, and how many places are true in both.
+#[derive(Drop)]
+struct Answers {
+    and: Vec<u8>,
+    complement: Vec<u8>,
+    union: Vec<u8>,
+    common: u64,
+}
+
+fn answered<L: Ledger>(
+    blank: Blank,
+    alloc: Global,
+    a: Wah,
+    b: Wah,
+) -> Result<Option<Answers>, AllocError>
+    requires ledger { blank.name ≡ L.name }
+    requires parts { blank.parts ≡ L.parts }
+    requires some { 0 < blank.parts }
+{
+    let mut steps = Steps::<L>::new(blank);
+    if a.len() != b.len() {
+        return Ok(None);
+    }
+    let and = combined::<And, L>(alloc, &a, &b, &mut steps)?;
+    let complement = complement(alloc, &a, &mut steps)?.to_bytes(alloc, &mut steps)?;
+    let common = common(&a, &b, &mut steps);
+    let len = a.len();
+    let union = or_many(alloc, &[a, b], len, &mut steps)?.to_bytes(alloc, &mut steps)?;
+    Ok(Some(Answers {
+        and,
+        complement,
+        union,
+        common,
+    }))
+}
+
+fn union_of_none<L: Ledger>(blank: Blank, alloc: Global) -> Result<Vec<u8>, AllocError>
+    requires ledger { blank.name ≡ L.name }
+    requires parts { blank.parts ≡ L.parts }
+    requires some { 0 < blank.parts }
+{
+    let mut steps = Steps::<L>::new(blank);
+    or_many(alloc, &[], 62, &mut steps)?.to_bytes(alloc, &mut steps)
+}
+
+/// The first pairs of two vectors.
+fn pairs_of<L: Ledger>(
+    blank: Blank,
+    alloc: Global,
+    a: &Wah,
+    b: &Wah,
+) -> Result<Vec<Pair>, AllocError>
+    requires ledger { blank.name ≡ L.name }
+    requires parts { blank.parts ≡ L.parts }
+    requires some { 0 < blank.parts }
+{
+    let mut steps = Steps::<L>::new(blank);
+    let mut pairs = Vec::new(alloc);
+    if a.len() != b.len() {
+        return Ok(pairs);
+    }
+    let mut both = Lockstep::over(a, b);
+    while let Some(pair) = both.advance(&mut steps) {
+        pairs.push(pair)?;
+    }
+    Ok(pairs)
+}
+
+const NOTHING: &[u8] = &[124, 0, 0, 0, 1, 0, 0, 0, 4, 0, 0, 0x80];
+
+const NO_VECTORS: &[u8] = &[62, 0, 0, 0, 1, 0, 0, 0, 2, 0, 0, 0x80];
+
+const ALL: &[u8] = &[124, 0, 0, 0, 1, 0, 0, 0, 4, 0, 0, 0xC0];
+
+const FEW: &[u8] = &[
+    124, 0, 0, 0, 4, 0, 0, 0, 1, 0, 0, 0, 2, 0, 0, 0, 4, 0, 0, 0, 1, 0, 0, 0xC0,
+];
+
+#[test]
+fn ones_leave_the_other_vector(rt: HostRuntime) -> Result<(), Fail> {
+    let (a, _) = Wah::from_bytes(rt.alloc(), ALL)?;
+    let (b, _) = Wah::from_bytes(rt.alloc(), FEW)?;
+    let answers = answered::<Brand>(Blank::new(1), rt.alloc(), a, b)?.ok_or("two lengths")?;
+    assert_eq!(rt; answers.and.as_slice(), FEW);
+    assert_eq!(rt; answers.common, 34);
+    assert_eq!(rt; answers.complement.as_slice(), NOTHING);
+    assert_eq!(rt; answers.union.as_slice(), ALL);
+    let none = union_of_none::<Brand>(Blank::new(1), rt.alloc())?;
+    assert_eq!(rt; none.as_slice(), NO_VECTORS);
+    Ok(())
+}
+
+#[test]
+fn pairs_stand_at_equal_places(rt: HostRuntime) -> Result<(), Fail> {
+    let (a, _) = Wah::from_bytes(rt.alloc(), ALL)?;
+    let (b, _) = Wah::from_bytes(rt.alloc(), FEW)?;
+    let pairs = pairs_of::<Brand>(Blank::new(1), rt.alloc(), &a, &b)?;
+    let want = [
+        Pair::Words {
+            a: 0x7FFF_FFFF,
+            b: 1,
+        },
+        Pair::Words {
+            a: 0x7FFF_FFFF,
+            b: 2,
+        },
+        Pair::Words {
+            a: 0x7FFF_FFFF,
+            b: 4,
+        },
+        Pair::Fills {
+            a: true,
+            b: true,
+            groups: 1,
+        },
+    ];
+    assert_eq!(rt; pairs.as_slice(), want.as_slice());
+    Ok(())
+}
+
+type Runs = &'static [(bool, u32)];
+
+const NONE: Runs = &[];
+
+const SHORT: Runs = &[(true, 40), (false, 5)];
+
+const LATE: Runs = &[(false, 3), (true, 42)];
+
+const ZEROS_FIRST: Runs = &[(false, 62), (true, 93)];
+
+const ONES_FIRST: Runs = &[(true, 93), (false, 62)];
+
+const MIXED: Runs = &[(true, 1), (false, 60), (true, 32), (false, 31), (true, 31)];
+
+const LONG_ZEROS: Runs = &[(false, 160), (true, 36)];
+
+const LONG_ONES: Runs = &[(true, 160), (false, 36)];
+
+const MANY: Runs = &[(true, 1), (false, 61), (true, 31), (false, 70), (true, 33)];
+
+#[test]
+fn operations_are_those_of_the_lists(rt: HostRuntime) -> Result<(), Fail> {
+    let table: [(Runs, Runs); 9] = [
+        (NONE, NONE),
+        (SHORT, LATE),
+        (ZEROS_FIRST, ONES_FIRST),
+        (MIXED, ZEROS_FIRST),
+        (ONES_FIRST, MIXED),
+        (LONG_ZEROS, MANY),
+        (MANY, LONG_ZEROS),
+        (LONG_ONES, MANY),
+        (MANY, LONG_ONES),
+    ];
+    for (a, b) in table {
+        let x = listed(rt.alloc(), a)?;
+        let y = listed(rt.alloc(), b)?;
+        assert!(rt; all_agree::<Brand>(Blank::new(1), rt.alloc(), &x, &y)?);
+    }
+    Ok(())
+}

@@ -1,7 +1,7 @@
 -- What printing a text tells of the status and of the reply.
-use Rattle.std.proofs.Common.{◌≡◌, ◌≢◌, ◌⊎◌, inl, inr, ℕ, Bool, true, false, List, Option, refl, sym, ap, subst, ◌∙◌}
+use Rattle.std.proofs.Common.{◌≡◌, ◌≢◌, inl, inr, ℕ, Bool, true, false, List, Option, sym, ap, subst, ◌∙◌}
 use Rattle.fb_outside.specs.Causes.{HasCause}
-use Rattle.fb_outside.specs.Streams.{Grows, GrowsInPart}
+use Rattle.fb_outside.specs.Streams.{GrowsInPart}
 use Rattle.fb_outside.proofs.StreamLemmas.{GrowsInPart-none}
 use Rattle.statuses.specs.declared.Status.{Status}
 use Rattle.statuses.specs.declared.Status.TheVariants.{Done, ReadFault, StoreFault, SinkFault, OutOfMemory}

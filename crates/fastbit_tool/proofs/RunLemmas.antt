@@ -1,5 +1,5 @@
 -- From how a load ran to the clauses of the call.
-use Rattle.std.proofs.Common.{◌≡◌, ◌≢◌, ◌≤◌, ◌⊎◌, inl, inr, ℕ, Bool, true, false, List, [], ◌∷◌, length, take, Option, Some, None, option_map, is_some, Result, Ok, Err, refl, sym, ap, subst, ◌∙◌, arith}
+use Rattle.std.proofs.Common.{◌≡◌, ◌≢◌, ◌⊎◌, inl, inr, ℕ, true, false, List, [], ◌∷◌, length, Option, Some, None, is_some, Result, Ok, Err, refl, sym, ap, subst, ◌∙◌, arith}
 use Rattle.fb_outside.specs.Files.{ChangesAmong, Files, SameFiles, told_at}
 use Rattle.fb_outside.specs.Names.{IsPath}
 use Rattle.fb_outside.proofs.FileLemmas.{ChangesAmong-same}
@@ -8,18 +8,18 @@ use Rattle.fb_types.specs.declared.cells.Cell.{Cell}
 use Rattle.fb_types.specs.Table.{Table}
 use Rattle.command_words.specs.declared.Load.{Load}
 use Rattle.command_words.specs.Valid.{IsValid}
-use Rattle.part_meta.specs.FileNames.{IsFileOf, catalog_name, values_name}
+use Rattle.part_meta.specs.FileNames.{catalog_name, values_name}
 use Rattle.part_meta.specs.declared.names.FileKind.TheVariants.{Values}
 use Rattle.column_file.specs.Values.{values_bytes}
 use Rattle.world.specs.World.{World}
 use Rattle.world.specs.Stands.{Stands, StandsFor, catalog_bytes, column_numbers}
-use Rattle.world.specs.Effects.{Effect, Loads, after, after_one, loaded_dataset}
+use Rattle.world.specs.Effects.{Effect, Loads, after_one, loaded_dataset}
 use Rattle.world.proofs.MapLemmas.{get-insert_other}
 use Rattle.statuses.specs.declared.Status.{Status}
-use Rattle.statuses.specs.declared.Status.TheVariants.{Done, ReadFault, StoreFault, SinkFault, OutOfMemory}
+use Rattle.statuses.specs.declared.Status.TheVariants.{Done, ReadFault, StoreFault, OutOfMemory}
 use Rattle.statuses.specs.Outcome.{Outcome, refused}
 use Rattle.ardea.specs.Load.{Gives, load_outcome, loaded_line, outcome_of}
-use Rattle.ardea.specs.Written.{Writes, WritesInPart, WritesValues, with_catalog, with_column, with_values}
+use Rattle.ardea.specs.Written.{Writes, WritesInPart, WritesValues, with_column, with_values}
 use Rattle.ardea.specs.Done.{GoesThrough, IsCut, IsDone}
 use Rattle.ardea.proofs.WorldLemmas.{absent_dataset, load_outcome_is, stands_with_all, stands_with_values}
 use Rattle.fastbit_tool.specs.Reply.{Replies, is_fault, outcome}
@@ -27,7 +27,7 @@ use Rattle.fastbit_tool.specs.Loading.{LoadRuns, Loaded, Refuses, Unread, Cut, P
 use Rattle.fastbit_tool.specs.Causes.{HasCauseIn, status_of}
 use Rattle.fastbit_tool.specs.Effects.{IsOfRequest, LeavesAfter}
 use Rattle.fastbit_tool.proofs.Refusals.{IsRefusal, IsRefusal-load}
-use Rattle.fastbit_tool.proofs.PrintLemmas.{Replies-prints, Replies-quiet, not_read, not_store}
+use Rattle.fastbit_tool.proofs.PrintLemmas.{Replies-prints, Replies-quiet, not_read}
 
 is_refusal : (load : Load) (left : Option (List ℕ)) (files : Option Files) (status : Status) → Gives load left files (Err status) → IsRefusal status
 is_refusal load left files status g = IsRefusal-load load.schema g.input g.there status g.is

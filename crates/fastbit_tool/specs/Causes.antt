@@ -1,5 +1,5 @@
 -- Why a command ended with its status.
-use Rattle.std.specs.Prelude.{◌≡◌, ◌⊎◌, ℕ, true, List, length, Option, Some, None, Result, Ok, Err}
+use Rattle.std.specs.Prelude.{◌≡◌, ◌⊎◌, ℕ, true, List, Option, Some, None, Result, Ok, Err}
 use Rattle.fb_outside.specs.Files.{Files}
 use Rattle.fb_types.specs.Table.{Table}
 use Rattle.command_words.specs.declared.Load.{Load}

@@ -1,5 +1,5 @@
 -- What a command leaves of the files.
-use Rattle.std.specs.Prelude.{◌≡◌, ◌⊎◌, ◌≤◌, ℕ, false, List, length, take, Option, Some, None}
+use Rattle.std.specs.Prelude.{◌≡◌, ◌≤◌, ℕ, false, List, length, take, Option, Some, None}
 use Rattle.fb_outside.specs.Files.{Files}
 use Rattle.command_words.specs.declared.Load.{Load}
 use Rattle.part_meta.specs.FileNames.{IsFileOf}

@@ -1,5 +1,5 @@
 -- How a load ran: what it left of the files, and what it printed.
-use Rattle.std.specs.Prelude.{◌≡◌, ◌⊎◌, ℕ, List, length, Option, Result, Ok, Err}
+use Rattle.std.specs.Prelude.{◌≡◌, ◌⊎◌, ℕ, List, length, Option, Err}
 use Rattle.fb_outside.specs.Files.{Files, SameFiles}
 use Rattle.fb_outside.specs.Streams.{Grows, GrowsInPart}
 use Rattle.fb_types.specs.Table.{Table}

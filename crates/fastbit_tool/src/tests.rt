@@ -34,12 +34,12 @@ fn answer<L: Ledger>(
 /// What is run, and what its status's number and its printed text must be.
 #[derive(Drop)]
 struct Case<'a> {
-    words: [&'a str; 5],
+    words: [&'static str; 5],
     input: &'a [u8],
-    source_fails: &'a [u64],
-    sink_fails: &'a [u64],
+    source_fails: &'static [u64],
+    sink_fails: &'static [u64],
     code: u8,
-    printed: &'a str,
+    printed: &'static str,
 }
 
 fn expect<R: Abort + AllocGlobal>(
@@ -68,7 +68,12 @@ fn expect<R: Abort + AllocGlobal>(
 }
 
 /// A case in which nothing fails.
-fn make_case<'a>(words: [&'a str; 5], input: &'a [u8], code: u8, printed: &'a str) -> Case<'a> {
+fn make_case<'a>(
+    words: [&'static str; 5],
+    input: &'a [u8],
+    code: u8,
+    printed: &'static str,
+) -> Case<'a> {
     Case {
         words,
         input,

@@ -1,6 +1,7 @@
 //! The commands of `fastbit`, over any input, any store of files and any output.
 #![tactic(auto)]
 
+mod laws;
 mod printing;
 
 ghost use Rattle.std.specs.Prelude.{◌≡◌, ◌≢◌, ℕ, List, Some, map, false, string_bytes};
@@ -20,6 +21,7 @@ use crate::printing::{print_loaded, refuse};
 use ardea::load;
 use command_words::{Load, request};
 use fb_outside::{Sink, Source, Store};
+pub use laws::{the_lines_of_loads, the_results_of_loads, the_words_of_a_load};
 pub use statuses::{LimitKind, Status, Stop};
 use std::alloc::Global;
 use std::sync::ledger::Ledger;

@@ -3,7 +3,7 @@ ghost use Rattle.std.specs.Prelude.{◌≡◌, ◌+◌, ◌*◌, ◌^◌, ◌<�
 ghost use Rattle.wah_words.specs.Places.{places};
 ghost use Rattle.wah_words.specs.Spelling.{words_of};
 ghost use Rattle.wah_logic.specs.Rest.{looks};
-ghost use Rattle.wah_logic.specs.Pairs.{Splits, Advances, IsPair, first_values};
+ghost use Rattle.wah_logic.specs.Pairs.{Splits, Advances};
 
 use crate::side::Side;
 use crate::turn::group_of;

@@ -1,5 +1,5 @@
 -- The reads of a reader, one after the other, give the list of all the records of a text.
-use Rattle.std.proofs.Common.{◌≡◌, ◌≤◌, ◌<◌, ◌+◌, ◌==◌, ◌&&◌, ℕ, zero, suc, List, [], ◌∷◌, ◌++◌, length, Option, Some, None, Bool, true, false, if◌then◌else◌, refl, ap, arith, ◌∙◌, inl, add-one, IsSome, Bor, rules}
+use Rattle.std.proofs.Common.{◌≡◌, ◌⊎◌, ◌≤◌, ◌<◌, ◌+◌, ◌*◌, ◌==◌, ◌&&◌, ℕ, zero, suc, List, [], ◌∷◌, ◌++◌, length, Option, Some, None, Bool, true, false, if◌then◌else◌, refl, ap, arith, ◌∙◌, inl, add-one, IsSome, Bor, inr, rules}
 use Rattle.csv.specs.Machine.{Read, after_end, ends_at_end, ends_with, field_after, fields_after, in_field, is_byte, is_end, next_record, start_field, start_record, step, carriage_return, line_feed}
 use Rattle.csv.specs.Reading.{is_bom, strip_bom, NextIs, ReadRecord, ReadsNext, default_config, is_flexible, pending_of, records_from, records_next}
 use Rattle.csv.specs.declared.reader.Reader.{Reader}
@@ -136,20 +136,89 @@ pub records_left-end : (s : State) (xs : List ℕ) → next_record default_confi
 unfolding records_left records_from
 records_left-end s xs e = rw (add-one, e) refl
 
--- there are no more records than bytes
-pub length-records_from : (cfg : Config) (n : ℕ) (s : State) (xs : List ℕ) → Between s → length (records_from cfg n s xs) ≤ length xs
+-- a record that was begun takes a further byte, or ends where the text ends
+next-goes_on : (cfg : Config) (s : State) (fields : List (List ℕ)) (field xs : List ℕ) (p : Read)
+    → next_record cfg s fields field xs ≡ Some p → (length p.2 < length xs) ⊎ (p.2 ≡ [])
+unfolding next_record
+next-goes_on cfg s fields field [] p e =
+    let h = end-between (ends_at_end s) (fields ++ (field ∷ []), st.StartRecord, []) p refl e in inr (rw (← h.1) refl)
+next-goes_on cfg s fields field (c ∷ rest) p e = by (is_end (step cfg s c).1) refl
+  where
+    by : (b : Bool) → is_end (step cfg s c).1 ≡ b → (length p.2 < length (c ∷ rest)) ⊎ (p.2 ≡ [])
+    by true t =
+        let d : Some (fields_after (step cfg s c).1 fields field, (step cfg s c).0, rest) ≡ Some p = rw t at e in
+        let same : (fields_after (step cfg s c).1 fields field, (step cfg s c).0, rest) ≡ p = cc in
+        inl (rw (← same) (omega arith))
+    by false t =
+        let h = next-between cfg (step cfg s c).0 (fields_after (step cfg s c).1 fields field) (field_after (step cfg s c).1 c field) rest p (rw t at e) in
+        inl (omega arith)
+
+-- a step that ends no record
+abbrev GoesOn : State × Action → Type 0
+GoesOn p = is_end p.1 ≡ false
+
+choice-goes_on : (b : Bool) (p q : State × Action) → GoesOn p → GoesOn q → GoesOn (if b then p else q)
+choice-goes_on true p q h g = h
+choice-goes_on false p q h g = g
+
+start_record-goes_on : (cfg : Config) (c : ℕ) → GoesOn (start_record cfg c)
+start_record-goes_on cfg c = by (ends_with cfg.terminator c) refl
+  where
+    by : (b : Bool) → ends_with cfg.terminator c ≡ b → GoesOn (start_record cfg c)
+    by true e = rw e refl
+    by false e = rw e
+        (choice-goes_on (is_byte cfg.comment c) _ _ refl
+        (choice-goes_on (cfg.quoting && (c == cfg.quote)) _ _ refl (choice-goes_on (c == cfg.delimiter) _ _ refl refl)))
+
+-- no record is of one byte that ends it
+between-goes_on : (cfg : Config) (s : State) (c : ℕ) → Between s → GoesOn (step cfg s c)
+between-goes_on cfg st.StartRecord c b = start_record-goes_on cfg c
+between-goes_on cfg st.AfterCr c b = choice-goes_on (c == line_feed) _ _ refl (start_record-goes_on cfg c)
+between-goes_on cfg st.StartField c b = cc b
+between-goes_on cfg st.InField c b = cc b
+between-goes_on cfg st.InQuoted c b = cc b
+between-goes_on cfg st.InEscape c b = refl
+between-goes_on cfg st.AfterQuote c b = cc b
+between-goes_on cfg st.InComment c b = cc b
+
+-- a record that is begun between records takes at least two bytes, or ends where the text ends
+pub next-takes_two : (cfg : Config) (s : State) (xs : List ℕ) (p : Read)
+    → Between s → next_record cfg s [] [] xs ≡ Some p → (length p.2 + 2 ≤ length xs) ⊎ (p.2 ≡ [])
+unfolding next_record
+next-takes_two cfg s [] p b e = cc (rw b at e)
+next-takes_two cfg s (c ∷ rest) p b e =
+    by (next-goes_on cfg (step cfg s c).0 (fields_after (step cfg s c).1 [] []) (field_after (step cfg s c).1 c []) rest p (rw (between-goes_on cfg s c b) at e))
+  where
+    by : (length p.2 < length rest) ⊎ (p.2 ≡ []) → (length p.2 + 2 ≤ length (c ∷ rest)) ⊎ (p.2 ≡ [])
+    by (inl h) = inl (omega arith)
+    by (inr h) = inr h
+
+-- where no bytes are left there is no record
+records_from-none : (cfg : Config) (n : ℕ) (s : State) → Between s → records_from cfg n s [] ≡ []
+unfolding records_from next_record
+records_from-none cfg zero s b = refl
+records_from-none cfg (suc n) s b = rw b refl
+
+-- each record takes two bytes, but the last, which may take one
+pub length-records_from : (cfg : Config) (n : ℕ) (s : State) (xs : List ℕ) → Between s → 2 * length (records_from cfg n s xs) ≤ length xs + 1
 unfolding records_from
 length-records_from cfg zero s xs b = omega arith
 length-records_from cfg (suc n) s xs b = by (next_record cfg s [] [] xs) refl (length-records_from cfg n)
   where
-    by : (o : Option Read) → next_record cfg s [] [] xs ≡ o → ((s' : State) (xs' : List ℕ) → Between s' → length (records_from cfg n s' xs') ≤ length xs')
-        → length (records_next (records_from cfg n) (next_record cfg s [] [] xs)) ≤ length xs
+    by : (o : Option Read) → next_record cfg s [] [] xs ≡ o → ((s' : State) (xs' : List ℕ) → Between s' → 2 * length (records_from cfg n s' xs') ≤ length xs' + 1)
+        → 2 * length (records_next (records_from cfg n) (next_record cfg s [] [] xs)) ≤ length xs + 1
     by None e more = rw e (omega arith)
-    by (Some r) e more =
-        let less = next-shorter cfg s [] [] xs r b e in
-        let after = next-between cfg s [] [] xs r e in
-        let rest = more r.1 r.2 after.0 in
-        rw e (omega arith)
+    by (Some r) e more = two (next-takes_two cfg s xs r b e)
+      where
+        two : (length r.2 + 2 ≤ length xs) ⊎ (r.2 ≡ []) → 2 * length (records_next (records_from cfg n) (next_record cfg s [] [] xs)) ≤ length xs + 1
+        two (inl less) =
+            let after = next-between cfg s [] [] xs r e in
+            let rest = more r.1 r.2 after.0 in
+            rw e (omega arith)
+        two (inr ends) =
+            let less = next-shorter cfg s [] [] xs r b e in
+            let after = next-between cfg s [] [] xs r e in
+            rw (e, ends, records_from-none cfg n r.1 after.0) (omega arith)
 
 -- a reader over a slice, by what it has left
 abbrev known : Bor (List ℕ) → Option (List ℕ)
@@ -214,8 +283,8 @@ length-strip_bom (a ∷ b ∷ c ∷ rest) = by (is_bom a b c)
     by true = omega arith
     by false = omega arith
 
--- a text has no more records than bytes
-pub length-text_records : (bytes : List ℕ) → length (text_records bytes) ≤ length bytes
+-- a text has two bytes for each record, but perhaps one for the last
+pub length-text_records : (bytes : List ℕ) → 2 * length (text_records bytes) ≤ length bytes + 1
 length-text_records bytes =
     let inner = length-records_from default_config (length (strip_bom bytes) + 1) st.StartRecord (strip_bom bytes) refl in
     omega (arith, inner, length-strip_bom bytes)

@@ -17,6 +17,7 @@ mod std_sink;
 mod std_source;
 #[cfg(test)]
 mod tests;
+mod whole;
 mod writing;
 
 pub use fail_at::FailAt;
@@ -29,3 +30,4 @@ pub use outside::{Failed, Sink, Source, Store, Trouble};
 pub use read_note::ReadNote;
 pub use std_sink::StdSink;
 pub use std_source::StdSource;
+pub use whole::read_whole;

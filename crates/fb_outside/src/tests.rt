@@ -1,6 +1,6 @@
 use crate::{
     FailAt, Failed, FileName, FolderStore, MemSink, MemSource, MemStore, ReadNote, Sink, Source,
-    StdSink, StdSource, Store, Trouble,
+    StdSink, StdSource, Store, Trouble, read_whole,
 };
 use std::fs;
 use std::io::{self, ErrorKind, Read, Write};
@@ -191,6 +191,44 @@ fn fails_calls_in_memory(rt: HostRuntime) -> Result<(), Fail> {
         length: 9,
     };
     assert!(rt; has_notes(store.reads(), &[note]));
+    Ok(())
+}
+
+/// The first bytes of the file, as one read gives them.
+fn check_whole<R: Abort + AllocGlobal>(
+    rt: &R,
+    store: &mut MemStore,
+    name: &FileName,
+    len: usize,
+    want: Result<&[u8], Trouble>,
+) {
+    match (read_whole(rt.alloc(), store, name, len), want) {
+        (Ok(bytes), Ok(want)) => assert!(rt; bytes.as_slice() == want, "{len}"),
+        (Err(trouble), Err(want)) => assert!(rt; trouble == want, "{len}"),
+        _ => rt.panic("another outcome"),
+    }
+}
+
+#[test]
+fn reads_whole_files(rt: HostRuntime) -> Result<(), Fail> {
+    let (a, b) = (named(&rt, "d/a"), named(&rt, "d/b"));
+    let fail = FailAt {
+        call: 4,
+        keep_new: false,
+    };
+    let mut store = MemStore::make(rt.alloc(), &[fail], 5)?;
+    assert_eq!(rt; store.put(a.as_str(), b"abcdef"), Ok(()));
+    check_whole(&rt, &mut store, &a, 6, Ok(b"abcdef"));
+    check_whole(&rt, &mut store, &a, 9, Ok(b"abcdef"));
+    check_whole(&rt, &mut store, &b, 4, Ok(b""));
+    check_whole(&rt, &mut store, &a, 4, Err(Trouble::Failed));
+    check_whole(&rt, &mut store, &a, 4, Ok(b"abcd"));
+    let notes = [6, 9, 4, 4].map(|length| ReadNote {
+        file: 0,
+        at: 0,
+        length,
+    });
+    assert!(rt; has_notes(store.reads(), &notes));
     Ok(())
 }
 

@@ -1,20 +1,29 @@
 -- The text of a catalog.
-use Rattle.std.specs.Prelude.{ℕ, List, [], ◌∷◌, ◌++◌, decimal}
-use Rattle.std.specs.List.{flat_map}
+use Rattle.std.specs.Prelude.{◌≤◌, ◌<◌, ℕ, List, ◌∷◌, ◌++◌, length, map, decimal}
+use Rattle.std.specs.List.{All, AllPairs}
 use lib.Chars.{codes}
+use Rattle.fb_types.specs.Schemas.{IsSchema}
 use Rattle.fb_types.specs.SchemaText.{schema_text}
+use Rattle.part_meta.specs.Lines.{line, joined}
 use Rattle.part_meta.specs.declared.catalog.Catalog.{Catalog}
 
--- ended by a line feed
-abbrev pub line : List ℕ → List ℕ
-line text = text ++ 10 ∷ []
+-- What a catalog may say: at most 1,024 parts, in rising order, each below the number that the next part gets.
+pub record IsCatalog (catalog : Catalog) : Type 0 where
+  pub schema : IsSchema catalog.schema
+  pub next : catalog.next ≤ 4096
+  pub few : length catalog.parts ≤ 1024
+  pub rising : AllPairs (λ a b. a < b) catalog.parts
+  pub below : All (λ part. part < catalog.next) catalog.parts
 
 unfoldable pub part_line : ℕ → List ℕ
 part_line number = line (codes "part " ++ decimal number)
 
-unfoldable pub catalog_text : Catalog → List ℕ
-catalog_text catalog =
+unfoldable pub catalog_lines : Catalog → List (List ℕ)
+catalog_lines catalog =
     line (codes "fastbit catalog 1")
-    ++ line (codes "schema " ++ schema_text catalog.schema)
-    ++ line (codes "next " ++ decimal catalog.next)
-    ++ flat_map part_line catalog.parts
+    ∷ line (codes "schema " ++ schema_text catalog.schema)
+    ∷ line (codes "next " ++ decimal catalog.next)
+    ∷ map part_line catalog.parts
+
+unfoldable pub catalog_text : Catalog → List ℕ
+catalog_text catalog = joined (catalog_lines catalog)

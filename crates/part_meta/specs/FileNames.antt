@@ -16,9 +16,12 @@ catalog_name dir = under dir (codes "-catalog.txt")
 abbrev pub four_digits : ℕ → List ℕ
 four_digits n = (48 + n / 1000 % 10) ∷ (48 + n / 100 % 10) ∷ (48 + n / 10 % 10) ∷ (48 + n % 10) ∷ []
 
--- the folder of a part: `p` (112) and its number
+-- what the folder of a part is called: `p` (112) and its number
+abbrev pub folder_name : ℕ → List ℕ
+folder_name part = 112 ∷ four_digits part
+
 unfoldable pub part_folder : List ℕ → ℕ → List ℕ
-part_folder dir part = under dir (112 ∷ four_digits part)
+part_folder dir part = under dir (folder_name part)
 
 -- what a file of a part is called in its folder; only the part's own text is of no column
 unfoldable pub leaf : FileKind → List ℕ → List ℕ

@@ -1,7 +1,8 @@
 ghost use Rattle.std.specs.Prelude.{◌≡◌, ◌++◌, IfOk, OnOk, decimal, string_bytes};
 ghost use Rattle.std.specs.List.{flat_map};
 ghost use lib.Chars.{codes};
-ghost use Rattle.part_meta.specs.CatalogText.{catalog_text, line, part_line};
+ghost use Rattle.part_meta.specs.CatalogText.{catalog_text, part_line};
+ghost use Rattle.part_meta.specs.Lines.{line};
 
 use fb_types::{Schema, print_schema};
 use sqlite_items::Items;

@@ -1,10 +1,18 @@
-//! The names of a dataset's files, and the texts that list its parts.
+//! The names of a dataset's files, and the texts that list its parts and say what a part has.
 #![tactic(auto)]
 
 mod catalog;
+mod catalog_reading;
+mod fault;
 mod names;
+mod part;
+mod part_reading;
 #[cfg(test)]
 mod tests;
 
 pub use catalog::{Catalog, print_catalog};
+pub use catalog_reading::parse_catalog;
+pub use fault::MetaTextFault;
 pub use names::{FileKind, catalog_of, file_of};
+pub use part::PartMeta;
+pub use part_reading::{parse_part, print_part};

@@ -1,6 +1,7 @@
 use Rattle.std.proofs.Common.{◌++◌, decimal, string_bytes}
 use lib.Chars.{codes}
-use Rattle.part_meta.specs.CatalogText.{line, part_line}
+use Rattle.part_meta.specs.CatalogText.{part_line}
+use Rattle.part_meta.specs.Lines.{line}
 use Rattle.part_meta.proofs.LineLemmas.{lines-step}
 use Rattle.part_meta.proofs.catalog.number_lines.Goals as goal
 

@@ -1,7 +1,8 @@
 use Rattle.std.proofs.Common.{◌≡◌, ◌++◌, take, decimal, string_bytes}
 use Rattle.std.specs.List.{flat_map}
 use lib.Chars.{codes}
-use Rattle.part_meta.specs.CatalogText.{line, part_line}
+use Rattle.part_meta.specs.CatalogText.{part_line}
+use Rattle.part_meta.specs.Lines.{line}
 use Rattle.part_meta.proofs.catalog.number_lines.Given as goal
 
 abbrev pub invariant-loop-part : goal.invariant-loop-part

@@ -2,17 +2,18 @@ use Rattle.std.proofs.Common.{◌≡◌, ◌++◌, decimal, refl}
 use Rattle.std.specs.List.{flat_map}
 use lib.Chars.{codes}
 use Rattle.fb_types.specs.SchemaText.{schema_text}
-use Rattle.part_meta.specs.CatalogText.{catalog_text, line, part_line}
-use Rattle.part_meta.proofs.LineLemmas.{catalog-joined}
+use Rattle.part_meta.specs.CatalogText.{catalog_lines, catalog_text, part_line}
+use Rattle.part_meta.specs.Lines.{line}
+use Rattle.part_meta.proofs.LineLemmas.{catalog-joined, joined-map}
 use Rattle.part_meta.proofs.catalog.print_catalog.Goals as goal
 
 pub returns : goal.returns
-unfolding catalog_text
+unfolding catalog_text catalog_lines
 returns c =
     let schema : c.bytes.result.now ≡ schema_text c.args.catalog.now.schema =
     cc (c.bytes.ensures, c.in_ok-schema.ensures.text) in
     let numbers : c.as_bytes.result.now ≡ line (codes "next " ++ decimal c.args.catalog.now.next) ++ flat_map part_line c.args.catalog.now.parts =
     rw (c.as_bytes.ensures.value, c.in_ok-numbers.ensures, c.as_slice.ensures) refl in
     let text : c.in_ok-text.text.items ≡ line (codes "fastbit catalog 1") ++ codes "schema " = c.in_ok-text.ensures.items in
-    rw (c.in_ok-extend_from_slice-2.ensures.items, c.in_ok-push.ensures.items, c.in_ok-extend_from_slice.ensures.items, text, schema, numbers)
+    rw (c.in_ok-extend_from_slice-2.ensures.items, c.in_ok-push.ensures.items, c.in_ok-extend_from_slice.ensures.items, text, schema, numbers, joined-map part_line c.args.catalog.now.parts)
     (catalog-joined (line (codes "fastbit catalog 1")) (codes "schema ") (schema_text c.args.catalog.now.schema) (line (codes "next " ++ decimal c.args.catalog.now.next)) (flat_map part_line c.args.catalog.now.parts))

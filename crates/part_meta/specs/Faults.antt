@@ -1,0 +1,16 @@
+-- What the readers of catalogs and parts' texts answer.
+use Rattle.std.specs.Prelude.{◌≡◌, ℕ, List, Result, Ok, Err}
+use Rattle.part_meta.specs.Lines.{IsFirstWrong}
+use Rattle.part_meta.specs.declared.fault.MetaTextFault.{MetaTextFault}
+use Rattle.part_meta.specs.declared.fault.MetaTextFault.TheVariants.{At, OutOfMemory}
+
+-- the value, unless memory ran out
+abbrev pub Gives : {A : Type 0} → Result A MetaTextFault → A → Type 0
+Gives (Ok found) x = found ≡ x
+Gives (Err (At line)) x = ⊥
+Gives (Err OutOfMemory) x = Unit {0}
+
+-- the line that a fault tells is the first wrong one
+abbrev pub IsFaultOf : {A : Type 0} → (A → Type 0) → (A → List (List ℕ)) → List ℕ → MetaTextFault → Type 0
+IsFaultOf IsOf lines bytes (At line) = IsFirstWrong IsOf lines bytes line
+IsFaultOf IsOf lines bytes OutOfMemory = Unit {0}

@@ -1,9 +1,14 @@
 -- What a column name is made of.
-use Rattle.std.proofs.Common.{◌≡◌, ℕ, ◌≤◌, Bool, true, false, ◌&&◌, not, cond, nat_le, List, [], ◌∷◌, ◌++◌, length, refl, arith, Some, None}
+use Rattle.std.proofs.Common.{◌≡◌, ℕ, ◌≤◌, ◌<◌, Bool, true, false, ◌&&◌, not, cond, nat_le, List, [], ◌∷◌, ◌++◌, length, refl, arith, Some, None}
 use Rattle.std.specs.List.{list_all, position_or_len}
 use Rattle.std.specs.Char.{to_ascii_lowercase}
 use Rattle.std.specs.Str.{str_to_ascii_lowercase}
+use Rattle.std.specs.List.{All}
+use Rattle.std.specs.Str.{IsUtf8}
 use Rattle.std.proofs.lemmas.Bool.{leb-true}
+use Rattle.std.proofs.lemmas.List.Elements.{All-nil, All-cons}
+use Rattle.std.proofs.lemmas.Str.{IsUtf8-from_ascii}
+use Rattle.std.proofs.lemmas.Str.Ascii.{IsAscii-from_all}
 use Rattle.std.proofs.lemmas.Bool.Decides.{nat_tests}
 use Rattle.fb_types.specs.Names.{begins_name, continues_name, has_name_bytes, is_column_name, IsColumnName, column_name}
 use Rattle.fb_types.specs.SchemaText.{is_colon}
@@ -41,6 +46,18 @@ pub name_short : (name : List ℕ) → IsColumnName name → length name ≤ 64
 name_short name h =
     let test : nat_le (length name) 64 ≡ true = both_right (has_name_bytes name) (nat_le (length name) 64) (both_left _ _ h) in
     leb-true (length name) 64 test
+
+-- a name is ASCII, and so text
+ascii_byte : (b : ℕ) → continues_name b ≡ true → b < 128
+ascii_byte b h = grind (arith, nat_tests)
+
+all_ascii : (bytes : List ℕ) → list_all continues_name bytes ≡ true → All (λ b. b < 128) bytes
+all_ascii [] h = All-nil (λ b. b < 128)
+all_ascii (b ∷ bs) h =
+    All-cons (λ b. b < 128) b bs (ascii_byte b (both_left _ _ h)) (all_ascii bs (both_right (continues_name b) _ h))
+
+pub name_is_text : (name : List ℕ) → IsColumnName name → IsUtf8 name
+name_is_text name h = IsUtf8-from_ascii name (IsAscii-from_all name (all_ascii name (name_continues name h)))
 
 lower_byte : (b : ℕ) → continues_name b ≡ true → to_ascii_lowercase b ≡ b
 lower_byte b h = grind (arith, nat_tests)

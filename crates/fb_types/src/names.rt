@@ -43,6 +43,15 @@ impl ColName {
         self.bytes.as_slice()
     }
 
+    pub fn as_str(&self) -> &str
+        ensures { result.now ≡ self.now }
+    {
+        match str::from_utf8(self.bytes()) {
+            Ok(name) => name,
+            Err(_) => unreachable!(),
+        }
+    }
+
     pub fn copy(&self, alloc: Global) -> Result<ColName, AllocError>
         ensures { IfOk result (λ n. n ≡ self.now) }
     {

@@ -5,10 +5,14 @@ use Rattle.fb_types.specs.declared.schema_text.SchemaKind.{SchemaKind}
 use Rattle.fb_types.specs.declared.schema_text.SchemaKind.TheVariants.{Empty, TooMany, BadName, BadType, Repeated}
 use Rattle.csv_load.specs.declared.fields.RecordKind.{RecordKind}
 use Rattle.csv_load.specs.declared.fields.RecordKind.TheVariants.{FieldCount, NotWhole, OutOfRange, TextLength}
+use Rattle.where_grammar.specs.declared.clause.QueryKind.{QueryKind}
+use Rattle.where_grammar.specs.declared.clause.QueryKind.TheVariants.{Syntax, Literal, Unknown}
+use Rattle.statuses.specs.declared.DamageKind.{DamageKind}
+use Rattle.statuses.specs.declared.DamageKind.TheVariants.{Missing, Text, Length}
 use Rattle.statuses.specs.declared.LimitKind.{LimitKind}
 use Rattle.statuses.specs.declared.LimitKind.TheVariants.{Input}
 use Rattle.statuses.specs.declared.Status.{Status}
-use Rattle.statuses.specs.declared.Status.TheVariants.{Done, Usage, BadSchema, BadInput, SchemaDiffers, Limit, ReadFault, StoreFault, SinkFault, OutOfMemory}
+use Rattle.statuses.specs.declared.Status.TheVariants.{Done, Usage, BadSchema, BadInput, SchemaDiffers, BadQuery, NoDataset, Damaged, Limit, ReadFault, StoreFault, SinkFault, OutOfMemory}
 
 -- the number with which the program ends
 abbrev pub code_of : Status → ℕ
@@ -17,6 +21,9 @@ code_of Usage = 1
 code_of (BadSchema column kind) = 2
 code_of (BadInput number field kind) = 3
 code_of (SchemaDiffers column) = 4
+code_of (BadQuery kind) = 6
+code_of (NoDataset file) = 7
+code_of (Damaged file kind want have) = 8
 code_of (Limit what number limit) = 9
 code_of ReadFault = 10
 code_of StoreFault = 11
@@ -37,6 +44,17 @@ record_word NotWhole = codes "NotWhole"
 record_word OutOfRange = codes "OutOfRange"
 record_word TextLength = codes "TextLength"
 
+-- a column that isn't known is named
+unfoldable pub query_word : QueryKind → List ℕ
+query_word Syntax = codes "Syntax"
+query_word Literal = codes "Literal"
+query_word (Unknown name) = codes "Unknown " ++ name
+
+unfoldable pub damage_word : DamageKind → List ℕ
+damage_word Missing = codes "Missing"
+damage_word Text = codes "Text"
+damage_word Length = codes "Length"
+
 unfoldable pub limit_word : LimitKind → List ℕ
 limit_word Input = codes "input"
 
@@ -48,6 +66,9 @@ line_of (BadSchema column kind) =
 line_of (BadInput number field kind) =
     codes "error 3 record " ++ (decimal number ++ (codes " field " ++ (decimal field ++ (codes " " ++ (record_word kind ++ codes "\n")))))
 line_of (SchemaDiffers column) = codes "error 4 schema differs at column " ++ (decimal column ++ codes "\n")
+line_of (BadQuery kind) = codes "error 6 query " ++ (query_word kind ++ codes "\n")
+line_of (NoDataset file) = codes "error 7 missing " ++ (file ++ codes "\n")
+line_of (Damaged file kind want have) = codes "error 8 damaged " ++ (file ++ (codes " " ++ (damage_word kind ++ codes "\n")))
 line_of (Limit what number limit) =
     codes "error 9 limit " ++ (limit_word what ++ (codes " " ++ (decimal number ++ (codes " over " ++ (decimal limit ++ codes "\n")))))
 line_of Done = []

@@ -1,5 +1,5 @@
 -- What a command answers and does.
-use Rattle.std.specs.Prelude.{ℕ, List, []}
+use Rattle.std.specs.Prelude.{ℕ, List, [], Result, Ok, Err}
 use Rattle.statuses.specs.declared.Status.{Status}
 use Rattle.statuses.specs.Lines.{line_of}
 use Rattle.world.specs.Effects.{Effect}
@@ -13,3 +13,9 @@ pub record Outcome : Type 0 where
 -- a refusal prints its line and does nothing
 abbrev pub refused : Status → Outcome
 refused status = record { status = status; text = line_of status; effects = [] }
+
+-- a step, and the next one where it isn't refused
+infixl 10 ◌>>=◌
+abbrev pub ◌>>=◌ : {A B : Type 0} → Result A Status → (A → Result B Status) → Result B Status
+(Ok x) >>= f = f x
+(Err status) >>= f = Err status

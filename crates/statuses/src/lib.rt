@@ -1,15 +1,17 @@
 //! The statuses with which a command ends, their numbers, and the lines of the refusals.
 #![tactic(auto)]
 
-ghost use Rattle.std.specs.Prelude.{◌≡◌, IfOk, string_bytes};
-ghost use Rattle.statuses.specs.Lines.{code_of, limit_word, line_of, record_word, schema_word};
+ghost use Rattle.std.specs.Prelude.{◌≡◌, ℕ, IfOk, string_bytes};
+ghost use Rattle.statuses.specs.Lines.{code_of, damage_word, limit_word, line_of, query_word, record_word, schema_word};
 
 mod stop;
 
 use csv_load::RecordKind;
+use fb_outside::FileName;
 use fb_types::SchemaKind;
 use std::alloc::{AllocError, Global};
 pub use stop::Stop;
+use where_grammar::QueryKind;
 
 /// Which limit a number passed.
 #[derive(Clone, Copy, Debug, PartialEq, Eq)]
@@ -17,9 +19,20 @@ pub enum LimitKind {
     Input,
 }
 
+/// What is wrong with a file of a dataset.
+#[derive(Clone, Copy, Debug, PartialEq, Eq)]
+pub enum DamageKind {
+    /// The catalog lists it, but it is absent.
+    Missing,
+    /// It is no text of its kind.
+    Text,
+    /// Its length is none that such a file has.
+    Length,
+}
+
 /// How a command ended: done, refused (`Usage` to `Limit`, whose line is printed), or stopped by a fault of the
 /// outside or for want of memory (which print nothing more).
-#[derive(Clone, Copy, Debug, PartialEq, Eq)]
+#[derive(Debug, Drop)]
 pub enum Status {
     Done,
     /// The words are no request.
@@ -38,6 +51,22 @@ pub enum Status {
     /// The path has a dataset whose schema isn't the load's.
     SchemaDiffers {
         column: u32,
+    },
+    /// The query text is refused, or names a column that the dataset hasn't.
+    BadQuery {
+        kind: QueryKind,
+    },
+    /// The path has no dataset: this catalog is absent.
+    NoDataset {
+        file: FileName,
+    },
+    /// A file of a dataset isn't as it should be. `want` and `have` are the length that it had to have, 0 where
+    /// none was fixed, and the one that it has; for other kinds both are 0.
+    Damaged {
+        file: FileName,
+        kind: DamageKind,
+        want: u64,
+        have: u64,
     },
     /// A number passed a limit.
     Limit {
@@ -62,6 +91,9 @@ impl Status {
             Status::BadSchema { .. } => 2,
             Status::BadInput { .. } => 3,
             Status::SchemaDiffers { .. } => 4,
+            Status::BadQuery { .. } => 6,
+            Status::NoDataset { .. } => 7,
+            Status::Damaged { .. } => 8,
             Status::Limit { .. } => 9,
             Status::ReadFault => 10,
             Status::StoreFault => 11,
@@ -75,20 +107,23 @@ impl Status {
     pub fn line(&self, alloc: Global) -> Result<String, AllocError>
         ensures { IfOk result (λ line. string_bytes line ≡ line_of self.now) }
     {
-        match *self {
+        match self {
             Status::Usage => usage_line(alloc),
-            Status::BadSchema { column, kind } => schema_line(alloc, column, kind),
+            Status::BadSchema { column, kind } => schema_line(alloc, *column, *kind),
             Status::BadInput {
                 number,
                 field,
                 kind,
-            } => record_line(alloc, number, field, kind),
-            Status::SchemaDiffers { column } => differs_line(alloc, column),
+            } => record_line(alloc, *number, *field, *kind),
+            Status::SchemaDiffers { column } => differs_line(alloc, *column),
+            Status::BadQuery { kind } => query_line(alloc, kind),
+            Status::NoDataset { file } => missing_line(alloc, file),
+            Status::Damaged { file, kind, .. } => damaged_line(alloc, file, *kind),
             Status::Limit {
                 what,
                 number,
                 limit,
-            } => limit_line(alloc, what, number, limit),
+            } => limit_line(alloc, *what, *number, *limit),
             Status::Done
             | Status::ReadFault
             | Status::StoreFault
@@ -134,6 +169,45 @@ fn differs_line(alloc: Global, column: u32) -> Result<String, AllocError>
 }
 
 #[tactic(auto, unfolding(crate::specs::Lines::line_of))]
+fn query_line(alloc: Global, kind: &QueryKind) -> Result<String, AllocError>
+    ensures { IfOk result (λ line. string_bytes line ≡ line_of (Status.BadQuery kind.now)) }
+{
+    let kind = query_kind(alloc, kind)?;
+    format!(in alloc; "error 6 query {kind}\n")
+}
+
+#[tactic(auto, unfolding(crate::specs::Lines::query_word))]
+fn query_kind(alloc: Global, kind: &QueryKind) -> Result<String, AllocError>
+    ensures { IfOk result (λ word. string_bytes word ≡ query_word kind.now) }
+{
+    match kind {
+        QueryKind::Syntax => String::from_str(alloc, "Syntax"),
+        QueryKind::Literal => String::from_str(alloc, "Literal"),
+        QueryKind::Unknown(name) => {
+            let name = name.as_str();
+            format!(in alloc; "Unknown {name}")
+        }
+    }
+}
+
+#[tactic(auto, unfolding(crate::specs::Lines::line_of))]
+fn missing_line(alloc: Global, file: &FileName) -> Result<String, AllocError>
+    ensures { IfOk result (λ line. string_bytes line ≡ line_of (Status.NoDataset file.now)) }
+{
+    let file = file.as_str();
+    format!(in alloc; "error 7 missing {file}\n")
+}
+
+#[tactic(auto, unfolding(crate::specs::Lines::line_of))]
+fn damaged_line(alloc: Global, file: &FileName, kind: DamageKind) -> Result<String, AllocError>
+    ensures { (want have : ℕ) → IfOk result (λ line. string_bytes line ≡ line_of (Status.Damaged file.now kind want have)) }
+{
+    let file = file.as_str();
+    let kind = damage_kind(kind);
+    format!(in alloc; "error 8 damaged {file} {kind}\n")
+}
+
+#[tactic(auto, unfolding(crate::specs::Lines::line_of))]
 fn limit_line(alloc: Global, what: LimitKind, number: u64, limit: u64) -> Result<String, AllocError>
     ensures { IfOk result (λ line. string_bytes line ≡ line_of (Status.Limit what number limit)) }
 {
@@ -163,6 +237,17 @@ fn record_kind(kind: RecordKind) -> &'static str
         RecordKind::NotWhole => "NotWhole",
         RecordKind::OutOfRange => "OutOfRange",
         RecordKind::TextLength => "TextLength",
+    }
+}
+
+#[tactic(auto, unfolding(crate::specs::Lines::damage_word))]
+fn damage_kind(kind: DamageKind) -> &'static str
+    ensures { result.now ≡ damage_word kind }
+{
+    match kind {
+        DamageKind::Missing => "Missing",
+        DamageKind::Text => "Text",
+        DamageKind::Length => "Length",
     }
 }
 

@@ -1,8 +1,8 @@
 //! The words of a command line, read as a request.
 #![tactic(auto)]
 
-ghost use Rattle.std.specs.Prelude.{◌≡◌, ℕ, List, Some, None, IfOk, IfSome, IsUtf8, map, string_bytes, if◌then◌else◌};
-ghost use Rattle.command_words.specs.Words.{are_options, begins_with_dash, is_dir, is_load, request_of};
+ghost use Rattle.std.specs.Prelude.{◌≡◌, ℕ, List, [], ◌∷◌, Some, None, IfOk, IfSome, IsUtf8, map, string_bytes, if◌then◌else◌};
+ghost use Rattle.command_words.specs.Words.{begins_with_dash, is_dir, is_form, job_of, request_of};
 ghost use Rattle.command_words.specs.Valid.{IsValid};
 ghost use Rattle.fb_outside.specs.Names.{IsPath};
 
@@ -17,52 +17,83 @@ pub struct Load {
     pub schema: Label,
 }
 
+/// What a command line asks for.
+#[derive(Debug, Drop)]
+pub enum Job {
+    Ardea(Load),
+    /// How many records there are of the dataset at a path that the query's clause holds on.
+    Ibis { dir: FileName, query: Label },
+}
+
 /// The request that the words spell, or None where they spell none.
 #[tactic(auto, unfolding(crate::specs::Words::request_of))]
-pub fn request(alloc: Global, words: &[String]) -> Result<Option<Load>, AllocError>
+pub fn request(alloc: Global, words: &[String]) -> Result<Option<Job>, AllocError>
     ensures request { IfOk result (λ found. found ≡ request_of (map string_bytes words.now)) }
     ensures valid { IfOk result (λ found. IfSome found IsValid) }
 {
     match words {
-        [command, d, dir, m, schema] => load_of(
+        [command, d, dir, option, value] => read_five(
             alloc,
             command.as_str(),
             d.as_str(),
             dir.as_str(),
-            m.as_str(),
-            schema.as_str(),
+            option.as_str(),
+            value.as_str(),
         ),
         _ => Ok(None),
     }
 }
 
-fn load_of(
+#[tactic(auto, unfolding(crate::specs::Words::request_of))]
+fn read_five(
     alloc: Global,
     command: &str,
     d: &str,
     dir: &str,
-    m: &str,
-    schema: &str,
-) -> Result<Option<Load>, AllocError>
-    ensures request { IfOk result (λ found. found ≡ (if is_load command.now d.now dir.now m.now schema.now
-        then Some (record { dir = dir.now; schema = schema.now }) else None)) }
+    option: &str,
+    value: &str,
+) -> Result<Option<Job>, AllocError>
+    ensures request { IfOk result (λ found. found ≡ request_of (command.now ∷ d.now ∷ dir.now ∷ option.now ∷ value.now ∷ [])) }
     ensures valid { IfOk result (λ found. IfSome found IsValid) }
 {
-    if !has_options(command, d, m) || is_option(schema) {
+    if is_option(value) {
         return Ok(None);
     }
     let Some(dir) = dir_of(alloc, dir)? else {
         return Ok(None);
     };
-    let schema = Label::from_bytes(alloc, schema.as_bytes())?;
-    Ok(Some(Load { dir, schema }))
+    read_job(alloc, command, d, dir, option, value)
 }
 
-#[tactic(auto, unfolding(crate::specs::Words::are_options))]
-fn has_options(command: &str, d: &str, m: &str) -> bool
-    ensures { result ≡ are_options command.now d.now m.now }
+/// The job of a command with a path and a value.
+fn read_job(
+    alloc: Global,
+    command: &str,
+    d: &str,
+    dir: FileName,
+    option: &str,
+    value: &str,
+) -> Result<Option<Job>, AllocError>
+    requires path { IsPath dir }
+    ensures job { IfOk result (λ found. found ≡ job_of command.now d.now dir option.now value.now) }
+    ensures valid { IfOk result (λ found. IfSome found IsValid) }
 {
-    command == "ardea" && d == "-d" && m == "-m"
+    if has_form("ardea", "-m", command, d, option) {
+        let schema = Label::from_bytes(alloc, value.as_bytes())?;
+        return Ok(Some(Job::Ardea(Load { dir, schema })));
+    }
+    if has_form("ibis", "-q", command, d, option) {
+        let query = Label::from_bytes(alloc, value.as_bytes())?;
+        return Ok(Some(Job::Ibis { dir, query }));
+    }
+    Ok(None)
+}
+
+#[tactic(auto, unfolding(crate::specs::Words::is_form))]
+fn has_form(name: &str, letter: &str, command: &str, d: &str, option: &str) -> bool
+    ensures { result ≡ is_form name.now letter.now command.now d.now option.now }
+{
+    command == name && d == "-d" && option == letter
 }
 
 fn is_option(word: &str) -> bool

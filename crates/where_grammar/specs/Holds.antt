@@ -1,0 +1,85 @@
+-- When a clause holds of a record.
+use Rattle.std.specs.Prelude.{ℕ, Bool, true, false, not, ◌&&◌, List, [], ◌∷◌, Option, Some, None, ℤ, int_lt, int_le, slice_index_or}
+use Rattle.std.specs.List.{list_all, list_any}
+use Rattle.std.specs.Str.{bytes_eq}
+use Rattle.fb_types.specs.declared.cells.Cell.{Cell}
+use Rattle.fb_types.specs.declared.cells.Cell.TheVariants.{Null, Whole, Word}
+use Rattle.fb_types.specs.declared.schemas.Column.{Column}
+use Rattle.fb_types.specs.Schemas.{place_of}
+use Rattle.where_grammar.specs.declared.clause.Op.{Op}
+use Rattle.where_grammar.specs.declared.clause.Op.TheVariants as op
+use Rattle.where_grammar.specs.declared.clause.Atom.{Atom}
+use Rattle.where_grammar.specs.declared.clause.Atom.TheVariants as atom
+use Rattle.where_grammar.specs.declared.clause.Clause.{Clause}
+use Rattle.where_grammar.specs.declared.clause.Clause.TheOpen.{Clause-F}
+use Rattle.where_grammar.specs.declared.clause.Clause.TheFolds.{fold-Clause}
+use Rattle.where_grammar.specs.Like.{like}
+
+-- the cell in the column of that name, null where the schema has none
+abbrev pub cell_named : List Column → List Cell → List ℕ → Cell
+cell_named columns cells name = cell_in_place (place_of columns name)
+  where
+    cell_in_place : Option ℕ → Cell
+    cell_in_place None = Null
+    cell_in_place (Some place) = slice_index_or cells place Null
+
+-- ---- conditions on one cell
+
+abbrev pub number_passes : (ℤ → Bool) → Cell → Bool
+number_passes test Null = false
+number_passes test (Whole number) = test number
+number_passes test (Word word) = false
+
+abbrev pub word_passes : (List ℕ → Bool) → Cell → Bool
+word_passes test Null = false
+word_passes test (Whole number) = false
+word_passes test (Word word) = test word
+
+abbrev pub is_there : Cell → Bool
+is_there Null = false
+is_there (Whole number) = true
+is_there (Word word) = true
+
+abbrev pub int_equal : ℤ → ℤ → Bool
+int_equal a b = int_le a b && int_le b a
+
+-- a number stands so to a limit
+abbrev pub compares : Op → ℤ → ℤ → Bool
+compares op.Less number limit = int_lt number limit
+compares op.LessEq number limit = int_le number limit
+compares op.Greater number limit = int_lt limit number
+compares op.GreaterEq number limit = int_le limit number
+compares op.Equal number limit = int_equal number limit
+compares op.Differs number limit = not (int_equal number limit)
+
+-- the truth of a condition; on a null cell each is false
+abbrev pub atom_holds : List Column → List Cell → Atom → Bool
+atom_holds columns cells (atom.Compare name by value) = number_passes (λ n. compares by n value) (cell_named columns cells name)
+atom_holds columns cells (atom.Double name left low right high) = number_passes (λ n. compares left n low && compares right n high) (cell_named columns cells name)
+atom_holds columns cells (atom.Between name low high) = number_passes (λ n. int_le low n && int_le n high) (cell_named columns cells name)
+atom_holds columns cells (atom.Numbers name list) = number_passes (λ n. list_any (int_equal n) list) (cell_named columns cells name)
+atom_holds columns cells (atom.Same name text) = word_passes (λ word. bytes_eq word text) (cell_named columns cells name)
+atom_holds columns cells (atom.Other name text) = word_passes (λ word. not (bytes_eq word text)) (cell_named columns cells name)
+atom_holds columns cells (atom.Texts name list) = word_passes (λ word. list_any (bytes_eq word) list) (cell_named columns cells name)
+atom_holds columns cells (atom.Like name pattern) = word_passes (like pattern) (cell_named columns cells name)
+atom_holds columns cells (atom.Exists name) = is_there (cell_named columns cells name)
+
+-- ---- clauses
+
+-- an odd number of them are true
+abbrev pub odd_many : List Bool → Bool
+odd_many [] = false
+odd_many (true ∷ parts) = not (odd_many parts)
+odd_many (false ∷ parts) = odd_many parts
+
+-- the truth of a clause from that of its parts
+abbrev pub holds_by_parts : List Column → List Cell → Clause-F Bool → Bool
+holds_by_parts columns cells (Clause-F.Or parts) = list_any (λ part. part) parts
+holds_by_parts columns cells (Clause-F.Xor parts) = odd_many parts
+holds_by_parts columns cells (Clause-F.And parts) = list_all (λ part. part) parts
+holds_by_parts columns cells (Clause-F.Not part) = not part
+holds_by_parts columns cells (Clause-F.One condition) = atom_holds columns cells condition
+
+-- the clause holds of the record with these cells, under the schema with these columns
+abbrev pub holds : Clause → List Column → List Cell → Bool
+holds clause columns cells = fold-Clause Bool (holds_by_parts columns cells) clause

@@ -1,0 +1,4 @@
+pub mod Like
+pub mod Holds
+pub mod Tokens
+pub mod Language

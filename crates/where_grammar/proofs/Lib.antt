@@ -4,3 +4,7 @@ pub mod Numbers
 pub mod Boundaries
 pub mod Shorter
 pub mod Lexing
+pub mod Cuts
+pub mod Divided
+pub mod Reread
+pub mod Laws

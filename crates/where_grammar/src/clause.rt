@@ -20,7 +20,11 @@ pub enum Op {
 #[derive(Debug, Drop)]
 pub enum Atom {
     /// The number is as the operator says to `value`.
-    Compare { name: ColName, op: Op, value: i128 },
+    Compare {
+        name: ColName,
+        op: Op,
+        value: i128,
+    },
     /// The number is as both operators say, to `low` and to `high`.
     Double {
         name: ColName,
@@ -36,17 +40,34 @@ pub enum Atom {
         high: i128,
     },
     /// The number is one of the list.
-    Numbers { name: ColName, list: Items<i128> },
+    Numbers {
+        name: ColName,
+        list: Items<i128>,
+    },
     /// The word is the text.
-    Same { name: ColName, text: Label },
+    Same {
+        name: ColName,
+        text: Label,
+    },
     /// The word is another one than the text.
-    Other { name: ColName, text: Label },
+    Other {
+        name: ColName,
+        text: Label,
+    },
     /// The word is one of the list.
-    Texts { name: ColName, list: Items<Label> },
+    Texts {
+        name: ColName,
+        list: Items<Label>,
+    },
     /// The word is of the form of the pattern.
-    Like { name: ColName, pattern: Label },
+    Like {
+        name: ColName,
+        pattern: Label,
+    },
     /// The cell isn't null.
-    Exists { name: ColName },
+    Exists {
+        name: ColName,
+    },
 }
 
 /// The condition of a query.

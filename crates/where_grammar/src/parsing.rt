@@ -63,7 +63,7 @@ pub fn parse_where(alloc: Global, text: &str) -> Result<Clause, ClauseFault>
 
     ensures exact { Gives result (read_where text.now) }
 {
-    Err(ClauseFault::OutOfMemory)
+    parsed(alloc, text)
 }
 
 /// What follows the word `where`, in either case, with which a query begins behind blanks; None where it begins

@@ -1,4 +1,4 @@
-use Rattle.std.proofs.Common.{◌≡◌, ◌-◌, true, refl, get_or, take, arith}
+use Rattle.std.proofs.Common.{◌≡◌, ◌-◌, true, get_or, take}
 use Rattle.std.specs.Char.{is_ascii_digit}
 use Rattle.std.specs.Str.Parse.{digits_value}
 use Rattle.where_grammar.proofs.Numbers.{digits_value-more, digit_value-ascii, cut_step, digit_here}

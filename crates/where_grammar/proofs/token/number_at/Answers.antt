@@ -1,4 +1,3 @@
-use Rattle.std.proofs.Common.{refl}
 use Rattle.std.specs.Char.{is_ascii_digit}
 use Rattle.where_grammar.proofs.Runs.{front_passes}
 use Rattle.where_grammar.proofs.token.number_at.Goals as goal

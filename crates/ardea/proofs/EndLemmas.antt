@@ -12,7 +12,7 @@ use Rattle.ardea.specs.Load.{Gives}
 use Rattle.ardea.specs.Reading.{IsRead, IsRefused, StopsReading}
 use Rattle.ardea.specs.Written.{WritesInPart, StopsWriting}
 use Rattle.ardea.specs.Done.{Ends, GoesThrough}
-use Rattle.ardea.proofs.LoadLemmas.{load_done, load_there, one_int}
+use Rattle.ardea.proofs.LoadLemmas.{load_done, load_there}
 
 -- whether the path has a catalog, where the files are told
 abbrev pub ToldThere : List ℕ → Option Files → Bool → Type 0
@@ -60,9 +60,9 @@ goes_through load left files table h told fit =
         is = load_done load.schema h.input table.schema table.records h.schema h.within h.records;
       };
       absent = told;
-      schema = one_int load.schema table.schema h.schema;
+      schema = h.one;
       fit = fit;
-      few = omega (arith, h.few);
+      few = h.few;
     }
 
 pub ends_writing : (load : Load) (left : Option (List ℕ)) (old new : Option Files) (table : Table) (stop : Stop)

@@ -1,16 +1,17 @@
 -- The refusals of a load, each where the causes before it don't hold.
-use Rattle.std.proofs.Common.{◌≡◌, ◌+◌, ◌<◌, ◌≤◌, if◌then◌else◌, ℕ, Bool, true, false, List, [], ◌++◌, length, nat_le, Option, Some, None, IfSome, Ok, Err, refl, sym, ap, subst, ◌∙◌, arith, length-append}
+use Rattle.std.proofs.Common.{◌≡◌, ◌+◌, ◌<◌, ◌≤◌, if◌then◌else◌, ℕ, Bool, true, false, List, [], ◌∷◌, ◌++◌, length, nat_le, Option, Some, None, IfSome, Ok, Err, refl, sym, ap, subst, ◌∙◌, arith, length-append}
 use Rattle.std.proofs.lemmas.Bool.{le-leb, leb-true}
 use Rattle.std.proofs.lemmas.List.{append-nil}
+use Rattle.std.proofs.lemmas.List.Elements.{All-head}
 use Rattle.fb_outside.specs.Streams.{Takes, IsAtEnd}
 use Rattle.fb_types.specs.declared.cells.Cell.{Cell}
 use Rattle.fb_types.specs.declared.schemas.Column.{Column}
-use Rattle.std.specs.List.{after_first, before_first}
-use Rattle.std.specs.Str.{bytes_eq, str_to_ascii_lowercase}
-use Rattle.fb_types.specs.declared.types.ColType.TheVariants.{Int}
-use Rattle.fb_types.specs.Names.{IsColumnName, column_name, is_column_name}
-use Rattle.fb_types.specs.Types.{type_name}
-use Rattle.fb_types.specs.SchemaText.{SchemaFault, first_is_no_type, is_colon, one_int_column, read_schema}
+use Rattle.fb_types.specs.declared.types.ColType.{ColType}
+use Rattle.fb_types.specs.declared.types.ColType.TheVariants.{Byte, UByte, Short, UShort, Int, UInt, Long, ULong, Category, Text}
+use Rattle.fb_types.specs.declared.schema_text.SchemaKind.TheVariants.{BadType}
+use Rattle.fb_types.specs.Names.{IsColumnName}
+use Rattle.fb_types.specs.Schemas.{IsSchema}
+use Rattle.fb_types.specs.SchemaText.{SchemaFault, read_schema}
 use Rattle.world.specs.World.{IsOneInt}
 use Rattle.csv_load.specs.Input.{TakesSome}
 use Rattle.csv_load.specs.Loaded.{loaded}
@@ -19,37 +20,47 @@ use Rattle.statuses.specs.declared.LimitKind.TheVariants.{Input}
 use Rattle.statuses.specs.declared.Status.{Status}
 use Rattle.statuses.specs.declared.Status.TheVariants.{BadSchema, SchemaDiffers, Limit}
 use Rattle.ardea.specs.declared.TheConstants.{MAX_INPUT_BYTES}
-use Rattle.ardea.specs.Load.{load_result, records_or_refusal}
+use Rattle.ardea.specs.Load.{is_int, load_result, load_schema, not_loadable, records_or_refusal}
 use Rattle.statuses.specs.declared.stop.Stop.{Stop}
 use Rattle.statuses.specs.declared.stop.Stop.TheVariants.{Refused, ReadFault, StoreFault, OutOfMemory}
 use Rattle.ardea.specs.Reading.{IsRefused, StopsAtRecords, StopsAtSchema, StopsReading}
 
 pub refused_schema : (text input : List ℕ) (there : Bool) (fault : SchemaFault) → read_schema text ≡ Err fault
     → load_result text input there ≡ Err (BadSchema fault.column fault.kind)
-unfolding load_result
+unfolding load_result load_schema
 refused_schema text input there fault e = rw e refl
+
+pub refused_column : (text input : List ℕ) (there : Bool) (schema : List Column) (column : ℕ) → read_schema text ≡ Ok schema
+    → not_loadable schema ≡ Some column → load_result text input there ≡ Err (BadSchema column BadType)
+unfolding load_result load_schema
+refused_column text input there schema column e off = rw (e, off) refl
+
+pub loads_schema : (text : List ℕ) (schema : List Column) → read_schema text ≡ Ok schema → not_loadable schema ≡ None
+    → load_schema text ≡ Ok schema
+unfolding load_schema
+loads_schema text schema e on = rw (e, on) refl
 
 above : (n m : ℕ) (b : Bool) → nat_le n m ≡ b → m < n → b ≡ false
 above n m true e h = absurd (omega (arith, leb-true n m e))
 above n m false e h = refl
 
-pub refused_length : (text input : List ℕ) (there : Bool) (schema : List Column) → read_schema text ≡ Ok schema → MAX_INPUT_BYTES < length input
+pub refused_length : (text input : List ℕ) (there : Bool) (schema : List Column) → load_schema text ≡ Ok schema → MAX_INPUT_BYTES < length input
     → load_result text input there ≡ Err (Limit Input (MAX_INPUT_BYTES + 1) MAX_INPUT_BYTES)
 unfolding load_result
 refused_length text input there schema e h = rw (e, above (length input) MAX_INPUT_BYTES (nat_le (length input) MAX_INPUT_BYTES) refl h) refl
 
 -- what is left to decide once the input is short enough
-pub refused_records : (text input : List ℕ) (there : Bool) (schema : List Column) (status : Status) → read_schema text ≡ Ok schema
+pub refused_records : (text input : List ℕ) (there : Bool) (schema : List Column) (status : Status) → load_schema text ≡ Ok schema
     → length input ≤ MAX_INPUT_BYTES → records_or_refusal (loaded input schema 0) ≡ Err status → load_result text input there ≡ Err status
 unfolding load_result
 refused_records text input there schema status e h bad = rw (e, le-leb (length input) MAX_INPUT_BYTES h, bad) refl
 
-pub load_there : (text input : List ℕ) (schema : List Column) (records : List (List Cell)) → read_schema text ≡ Ok schema
+pub load_there : (text input : List ℕ) (schema : List Column) (records : List (List Cell)) → load_schema text ≡ Ok schema
     → length input ≤ MAX_INPUT_BYTES → loaded input schema 0 ≡ Ok records → load_result text input true ≡ Err (SchemaDiffers 0)
 unfolding load_result
 load_there text input schema records e h good = rw (e, le-leb (length input) MAX_INPUT_BYTES h, good) refl
 
-pub load_done : (text input : List ℕ) (schema : List Column) (records : List (List Cell)) → read_schema text ≡ Ok schema
+pub load_done : (text input : List ℕ) (schema : List Column) (records : List (List Cell)) → load_schema text ≡ Ok schema
     → length input ≤ MAX_INPUT_BYTES → loaded input schema 0 ≡ Ok records
     → load_result text input false ≡ Ok (record { schema = schema; records = records })
 unfolding load_result
@@ -73,7 +84,7 @@ came_short (Some all) (Some rest) bytes n taken more =
     omega (arith, length-append bytes rest, ap length is)
 
 -- an input that is too long is refused, whether or not its bytes are told
-pub too_long : (load : Load) (schema : List Column) (old new : Option (List ℕ)) (bytes : List ℕ) → read_schema load.schema ≡ Ok schema
+pub too_long : (load : Load) (schema : List Column) (old new : Option (List ℕ)) (bytes : List ℕ) → load_schema load.schema ≡ Ok schema
     → Takes old new bytes → MAX_INPUT_BYTES < length bytes
     → IsRefused load old (Limit Input (MAX_INPUT_BYTES + 1) MAX_INPUT_BYTES)
 too_long load schema None new bytes e taken more =
@@ -101,7 +112,7 @@ stops_at_schema load left text OutOfMemory same h = tt
 
 -- and so do records of an input that was taken to its end
 pub stops_at_records : (load : Load) (schema : List Column) (old new : Option (List ℕ)) (bytes : List ℕ) (stop : Stop)
-    → read_schema load.schema ≡ Ok schema → Takes old new bytes → IsAtEnd new → length bytes ≤ MAX_INPUT_BYTES
+    → load_schema load.schema ≡ Ok schema → Takes old new bytes → IsAtEnd new → length bytes ≤ MAX_INPUT_BYTES
     → StopsAtRecords (loaded bytes schema 0) stop → StopsReading load old stop
 stops_at_records load schema old new bytes (Refused status) e taken end within h =
     record {
@@ -113,30 +124,39 @@ stops_at_records load schema old new bytes ReadFault e taken end within h = absu
 stops_at_records load schema old new bytes StoreFault e taken end within h = absurd h
 stops_at_records load schema old new bytes OutOfMemory e taken end within h = tt
 
-pub too_long_of : (load : Load) (schema : List Column) (old new : Option (List ℕ)) (limit block : ℕ) → read_schema load.schema ≡ Ok schema
+pub too_long_of : (load : Load) (schema : List Column) (old new : Option (List ℕ)) (limit block : ℕ) → load_schema load.schema ≡ Ok schema
     → (limit ≡ MAX_INPUT_BYTES) × TakesSome old new (λ n. (MAX_INPUT_BYTES < n) × (n ≤ MAX_INPUT_BYTES + block))
     → IsRefused load old (Limit Input (limit + 1) limit)
 too_long_of load schema old new limit block e h =
     rw h.0 (too_long load schema old new h.1.came e h.1.taken h.1.count.0)
 
--- a schema that a text spells is one `int` column
-one_column : (name : Option (List ℕ)) (schema : List Column) → IfSome name IsColumnName → one_int_column name ≡ Ok schema → IsOneInt schema
-one_column None schema named e = absurd (cc)
-one_column (Some name) schema named e = record { name = name; named = named; is = sym (cc) }
+-- a schema that can be loaded is one `int` column
+int_by : (ty : ColType) → is_int ty ≡ true → ty ≡ Int
+int_by Int e = refl
+int_by Byte e = cc e
+int_by UByte e = cc e
+int_by Short e = cc e
+int_by UShort e = cc e
+int_by UInt e = cc e
+int_by Long e = cc e
+int_by ULong e = cc e
+int_by Category e = cc e
+int_by Text e = cc e
 
-named_by : (name : List ℕ) (b : Bool) → is_column_name name ≡ b → IfSome (if b then Some name else None) IsColumnName
-named_by name true h = h
-named_by name false h = tt
+first_by : (column : Column) (b : Bool) → is_int column.ty ≡ b → if◌then◌else◌ {A = Option ℕ} b None (Some 1) ≡ None → column.ty ≡ Int
+first_by column true is e = int_by column.ty is
+first_by column false is e = absurd (cc)
 
-spelled_name : (bytes : List ℕ) → IfSome (column_name bytes) IsColumnName
-spelled_name bytes = named_by (str_to_ascii_lowercase bytes) (is_column_name (str_to_ascii_lowercase bytes)) refl
+more_by : (b : Bool) → if◌then◌else◌ {A = Option ℕ} b (Some 2) (Some 1) ≡ None → ⊥
+more_by true e = absurd (cc)
+more_by false e = absurd (cc)
 
-one_int_by : (b : Bool) (name : Option (List ℕ)) (schema : List Column) → IfSome name IsColumnName
-    → (if b then one_int_column name else first_is_no_type) ≡ Ok schema → IsOneInt schema
-one_int_by true name schema named e = one_column name schema named e
-one_int_by false name schema named e = absurd (cc)
-
-pub one_int : (text : List ℕ) (schema : List Column) → read_schema text ≡ Ok schema → IsOneInt schema
-one_int text schema e =
-    one_int_by (bytes_eq (after_first is_colon text) (type_name Int)) (column_name (before_first is_colon text)) schema
-    (spelled_name (before_first is_colon text)) e
+pub one_int : (schema : List Column) → IsSchema schema → not_loadable schema ≡ None → IsOneInt schema
+one_int [] valid e = absurd (omega (arith, valid.some))
+one_int (column ∷ []) valid e =
+    record {
+      name = column.name;
+      named = All-head (λ (c : Column). IsColumnName c.name) column [] valid.named;
+      is = ap (λ ty. record { name = column.name; ty = ty } ∷ []) (first_by column (is_int column.ty) refl e);
+    }
+one_int (column ∷ another ∷ columns) valid e = absurd (more_by (is_int column.ty) e)

@@ -43,9 +43,9 @@ pub absent_dataset : (load : Load) (left : Option (List ℕ)) (m : Files) (w : W
 absent_dataset load left m w table proper h goes =
     no_dataset (dataset_at w load.dir) (sym (catalog_tells m w load.dir (dataset_at w load.dir) refl proper h) ∙ goes.absent)
 
--- the dataset of a table that a partition can hold is one
+-- the dataset of a table that its one partition can hold is one
 pub loaded_is_dataset : (schema : List Column) (records : List (List Cell)) → IsOneInt schema → AllFit (record { schema = schema; records = records })
-    → length records ≤ 4194304 → IsDataset (loaded_dataset schema records)
+    → length records ≤ 500000 → IsDataset (loaded_dataset schema records)
 loaded_is_dataset schema [] one fit few = record { schema = one; parts = inl (record { next = refl; none = refl }) }
 loaded_is_dataset schema (cells ∷ records) one fit few =
     record {
@@ -54,7 +54,8 @@ loaded_is_dataset schema (cells ∷ records) one fit few =
         records = cells ∷ records;
         next = refl;
         part = refl;
-        valid = record { some = omega arith; few = few; fit = fit };
+        few = few;
+        valid = record { some = omega arith; few = omega arith; fit = fit };
       });
     }
 
@@ -88,7 +89,7 @@ stands_with_values path schema [] one m w none h = h
 stands_with_values path schema (cells ∷ records) one m w none h = stands_column path schema (cells ∷ records) one m w none h
 
 -- And once the catalog is put, the files stand for the world after the load.
-pub stands_with_all : (path : List ℕ) (table : Table) → IsOneInt table.schema → AllFit table → length table.records ≤ 4194304
+pub stands_with_all : (path : List ℕ) (table : Table) → IsOneInt table.schema → AllFit table → length table.records ≤ 500000
     → (m : Files) (w : World) → IsPath path → dataset_at w path ≡ None → Stands m w
     → Stands (with_catalog path table (with_values path table.schema table.records m)) (after_one w (Loads path table.schema table.records))
 stands_with_all path table one fit few m w proper none h =

@@ -10,13 +10,13 @@ use Rattle.statuses.specs.declared.stop.Stop.TheVariants.{Refused, ReadFault, St
 use Rattle.ardea.specs.Load.{Gives}
 use Rattle.ardea.specs.Written.{Writes, WritesInPart}
 
--- the load goes through with this table, which a partition can hold
+-- the load goes through with this table, which the one partition of a dataset can hold
 pub record GoesThrough (load : Load) (left : Option (List ℕ)) (files : Option Files) (table : Table) : Type 0 where
   pub given : Gives load left files (Ok table)
   pub absent : IfSome files (λ m. is_some (file_at m (catalog_name load.dir)) ≡ false)
   pub schema : IsOneInt table.schema
   pub fit : AllFit table
-  pub few : length table.records ≤ 4194304
+  pub few : length table.records ≤ 500000
 
 -- `old` and `new` are the files before and after: all of a load's are written where it is done, some where it stopped
 -- while it wrote, and none where it is refused or its input failed.

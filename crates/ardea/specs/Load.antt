@@ -1,9 +1,12 @@
 -- What a load answers: the refusal whose cause comes first in the order below, or the table that is loaded.
-use Rattle.std.specs.Prelude.{◌≡◌, ℕ, ◌+◌, Bool, List, [], ◌∷◌, ◌++◌, length, decimal, nat_le, Option, IfSome, is_some, Result, Ok, Err, if◌then◌else◌}
+use Rattle.std.specs.Prelude.{◌≡◌, ℕ, ◌+◌, Bool, true, false, List, [], ◌∷◌, ◌++◌, length, decimal, nat_le, Option, Some, None, IfSome, is_some, Result, Ok, Err, if◌then◌else◌}
 use lib.Chars.{codes}
 use Rattle.fb_outside.specs.Files.{Files, file_at}
 use Rattle.fb_types.specs.declared.cells.Cell.{Cell}
 use Rattle.fb_types.specs.declared.schemas.Column.{Column}
+use Rattle.fb_types.specs.declared.schema_text.SchemaKind.TheVariants.{BadType}
+use Rattle.fb_types.specs.declared.types.ColType.{ColType}
+use Rattle.fb_types.specs.declared.types.ColType.TheVariants.{Int}
 use Rattle.fb_types.specs.SchemaText.{SchemaFault, read_schema}
 use Rattle.fb_types.specs.Table.{Table}
 use Rattle.csv_load.specs.Loaded.{Fault, loaded}
@@ -14,17 +17,32 @@ use Rattle.world.specs.Effects.{Loads}
 use Rattle.statuses.specs.declared.LimitKind.TheVariants.{Input}
 use Rattle.statuses.specs.declared.Status.{Status}
 use Rattle.statuses.specs.declared.Status.TheVariants.{Done, BadSchema, BadInput, SchemaDiffers, Limit}
-use Rattle.statuses.specs.Outcome.{Outcome, refused}
+use Rattle.statuses.specs.Outcome.{◌>>=◌, Outcome, refused}
 use Rattle.ardea.specs.declared.TheConstants.{MAX_INPUT_BYTES}
-
-infixl 10 ◌>>=◌
-abbrev pub ◌>>=◌ : {A B : Type 0} → Result A Status → (A → Result B Status) → Result B Status
-(Ok x) >>= f = f x
-(Err status) >>= f = Err status
 
 abbrev pub schema_or_refusal : Result (List Column) SchemaFault → Result (List Column) Status
 schema_or_refusal (Ok schema) = Ok schema
 schema_or_refusal (Err fault) = Err (BadSchema fault.column fault.kind)
+
+abbrev pub is_int : ColType → Bool
+is_int Int = true
+is_int _ = false
+
+-- Until more types load, a load takes one `int` column: the number, from 1, of the first column that it doesn't take.
+abbrev pub not_loadable : List Column → Option ℕ
+not_loadable [] = None
+not_loadable (column ∷ []) = if is_int column.ty then None else Some 1
+not_loadable (column ∷ another ∷ columns) = if is_int column.ty then Some 2 else Some 1
+
+abbrev pub loadable_or_refusal : List Column → Option ℕ → Result (List Column) Status
+loadable_or_refusal schema None = Ok schema
+loadable_or_refusal schema (Some column) = Err (BadSchema column BadType)
+
+-- the schema that a text spells, where it can be loaded
+unfoldable pub load_schema : List ℕ → Result (List Column) Status
+load_schema text = do
+  schema ← schema_or_refusal (read_schema text)
+  loadable_or_refusal schema (not_loadable schema)
 
 abbrev pub within_limit : List ℕ → Result (List ℕ) Status
 within_limit input =
@@ -38,7 +56,7 @@ records_or_refusal (Err fault) = Err (BadInput fault.number fault.field fault.ki
 -- takes one load as yet.
 unfoldable pub load_result : List ℕ → List ℕ → Bool → Result Table Status
 load_result schema_text input there = do
-  schema ← schema_or_refusal (read_schema schema_text)
+  schema ← load_schema schema_text
   text ← within_limit input
   records ← records_or_refusal (loaded text schema 0)
   if there then Err (SchemaDiffers 0) else Ok (record { schema = schema; records = records })

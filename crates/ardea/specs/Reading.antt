@@ -2,24 +2,25 @@
 use Rattle.std.specs.Prelude.{◌≡◌, ⊤, ◌≤◌, ℕ, Bool, List, length, Option, IfSome, Result, Ok, Err}
 use Rattle.fb_types.specs.declared.cells.Cell.{Cell}
 use Rattle.fb_types.specs.declared.schemas.Column.{Column}
-use Rattle.fb_types.specs.SchemaText.{read_schema}
 use Rattle.fb_types.specs.Table.{Table}
 use Rattle.csv_load.specs.Loaded.{Fault, loaded}
 use Rattle.command_words.specs.declared.Load.{Load}
+use Rattle.world.specs.World.{IsOneInt}
 use Rattle.statuses.specs.declared.Status.{Status}
 use Rattle.statuses.specs.declared.stop.Stop.{Stop}
 use Rattle.statuses.specs.declared.stop.Stop.TheVariants.{Refused, ReadFault, StoreFault, OutOfMemory}
 use Rattle.ardea.specs.declared.TheConstants.{MAX_INPUT_BYTES}
-use Rattle.ardea.specs.Load.{load_result, records_or_refusal}
+use Rattle.ardea.specs.Load.{load_result, load_schema, records_or_refusal}
 
 -- the table is that of the whole input, which is what the source had left where that is told
 pub record IsRead (load : Load) (left : Option (List ℕ)) (table : Table) : Type 0 where
   pub input : List ℕ
   pub told : IfSome left (λ bytes. bytes ≡ input)
-  pub schema : read_schema load.schema ≡ Ok table.schema
+  pub schema : load_schema load.schema ≡ Ok table.schema
+  pub one : IsOneInt table.schema
   pub within : length input ≤ MAX_INPUT_BYTES
   pub records : loaded input table.schema 0 ≡ Ok table.records
-  pub few : length table.records ≤ MAX_INPUT_BYTES
+  pub few : length table.records ≤ 500000
 
 -- whether or not the path has a dataset, the load of the input is refused so
 pub record IsRefused (load : Load) (left : Option (List ℕ)) (status : Status) : Type 0 where
@@ -43,7 +44,7 @@ StopsAtSchema text OutOfMemory = ⊤
 -- an input that is refused under every schema
 abbrev pub StopsAtInput : Option (List ℕ) → Stop → Type 0
 StopsAtInput left (Refused status) =
-    (load : Load) (schema : List Column) → read_schema load.schema ≡ Ok schema → IsRefused load left status
+    (load : Load) (schema : List Column) → load_schema load.schema ≡ Ok schema → IsRefused load left status
 StopsAtInput left ReadFault = ⊤
 StopsAtInput left StoreFault = ⊥
 StopsAtInput left OutOfMemory = ⊤

@@ -1,9 +1,11 @@
 //! The records of a load's input.
 
-ghost use Rattle.std.specs.Prelude.{◌≡◌, ◌≤◌, Ok, IfOk, IfErr, IsErrOf, OnOk, IsUtf8, length, vec_len};
+ghost use Rattle.std.specs.Prelude.{◌≡◌, ◌≤◌, ◌+◌, ◌*◌, Ok, IfOk, IfErr, IsErrOf, OnOk, IsUtf8, length, vec_len};
 ghost use Rattle.fb_outside.specs.Causes.{HasCause};
 ghost use Rattle.fb_outside.specs.Streams.{IsAtEnd, Takes};
 ghost use Rattle.fb_types.specs.SchemaText.{IsFaultOf, read_schema};
+ghost use Rattle.world.specs.World.{IsOneInt};
+ghost use Rattle.ardea.specs.Load.{is_int, load_schema, not_loadable};
 ghost use Rattle.csv_load.specs.Answers.{IsRecordFault};
 ghost use Rattle.csv_load.specs.Input.{Explains};
 ghost use Rattle.csv_load.specs.Loaded.{loaded};
@@ -13,7 +15,7 @@ use crate::MAX_INPUT_BYTES;
 use command_words::Load;
 use csv_load::{InputFault, RecordFault, read_input, records};
 use fb_outside::Source;
-use fb_types::{Columns, MetaFault, Schema, parse_schema};
+use fb_types::{ColType, Column, Columns, MetaFault, Schema, SchemaKind, parse_schema};
 use statuses::{LimitKind, Status, Stop};
 use std::alloc::Global;
 
@@ -43,18 +45,43 @@ pub(crate) fn read_records<I: Source>(
     }
 }
 
+/// The schema that the text spells, where it can be loaded.
 fn schema_of(alloc: Global, text: &str) -> Result<Schema, Stop>
-    ensures ok { IfOk result (λ schema. read_schema text.now ≡ Ok schema) }
+    ensures ok { IfOk result (λ schema. load_schema text.now ≡ Ok schema) }
+    ensures one { IfOk result (λ schema. IsOneInt schema) }
     ensures stop { IfErr result (StopsAtSchema text.now) }
 {
     match parse_schema(alloc, text) {
-        Ok(schema) => Ok(schema),
-        Err(MetaFault::Bad { column, kind }) => Err(Stop::Refused(Status::BadSchema {
-            column,
-            kind,
-        })),
+        Ok(schema) => match not_loadable(schema.columns()) {
+            None => Ok(schema),
+            Some(column) => Err(bad_schema(column, SchemaKind::BadType)),
+        },
+        Err(MetaFault::Bad { column, kind }) => Err(bad_schema(column, kind)),
         Err(MetaFault::OutOfMemory) => Err(Stop::OutOfMemory),
     }
+}
+
+fn bad_schema(column: u32, kind: SchemaKind) -> Stop
+    ensures { result ≡ Stop.Refused (Status.BadSchema column kind) }
+{
+    Stop::Refused(Status::BadSchema { column, kind })
+}
+
+/// The number, from 1, of the first column that can't be loaded yet: only one `int` column can.
+fn not_loadable(columns: &[Column]) -> Option<u32>
+    ensures { result ≡ not_loadable columns.now }
+{
+    match columns {
+        [] => None,
+        [column] => { if is_int(column.ty) { None } else { Some(1) } }
+        [column, ..] => Some(if is_int(column.ty) { 2 } else { 1 }),
+    }
+}
+
+fn is_int(ty: ColType) -> bool
+    ensures { result ≡ is_int ty }
+{
+    matches!(ty, ColType::Int)
 }
 
 fn bytes_of<I: Source>(alloc: Global, input: &mut I) -> Result<Vec<u8>, Stop>
@@ -79,7 +106,7 @@ fn bytes_of<I: Source>(alloc: Global, input: &mut I) -> Result<Vec<u8>, Stop>
 fn records_of(alloc: Global, bytes: &[u8], schema: &Schema) -> Result<Columns, Stop>
     ensures schema { IfOk result (λ columns. columns.schema ≡ schema.now) }
     ensures records { IfOk result (λ columns. loaded bytes.now schema.now 0 ≡ Ok columns.records) }
-    ensures few { IfOk result (λ columns. length columns.records ≤ length bytes.now) }
+    ensures few { IfOk result (λ columns. 2 * length columns.records ≤ length bytes.now + 1) }
     ensures stop { IfErr result (StopsAtRecords (loaded bytes.now schema.now 0)) }
 {
     match records(alloc, bytes, schema, 0) {

@@ -1,5 +1,5 @@
 -- What the files of a dataset are, and which files stand for a world.
-use Rattle.std.specs.Prelude.{◌≡◌, ℕ, ℤ, pos, List, map, Option, Some, None, IfSome, slice_get, slice_index_or}
+use Rattle.std.specs.Prelude.{◌≡◌, ◌⊎◌, ℕ, ℤ, pos, List, [], ◌∷◌, map, Option, Some, None, IfSome, slice_get, slice_index_or}
 use Rattle.std.specs.List.{All}
 use Rattle.fb_outside.specs.Files.{Files, file_at}
 use Rattle.fb_outside.specs.Names.{IsPath}
@@ -10,7 +10,7 @@ use Rattle.column_file.specs.Values.{values_bytes}
 use Rattle.part_meta.specs.declared.catalog.Catalog.{Catalog}
 use Rattle.part_meta.specs.CatalogText.{catalog_text}
 use Rattle.part_meta.specs.FileNames.{catalog_name, values_name}
-use Rattle.world.specs.World.{Partition, Dataset, World, IsDataset, dataset_at}
+use Rattle.world.specs.World.{Partition, Dataset, World, IsDataset, IsOneInt, dataset_at}
 
 -- the number that stands for a cell in a values file: 0 where the cell has none
 abbrev pub stored_number : Cell → ℤ
@@ -24,6 +24,11 @@ column_numbers col records = map (λ cells. stored_number (slice_index_or cells 
 
 abbrev pub catalog_data : Dataset → Catalog
 catalog_data dataset = record { schema = dataset.schema; next = dataset.next; parts = map (λ part. part.number) dataset.parts }
+
+-- A catalog that a load writes: as yet of one `int` column, and of no part or of the part of number 0 alone.
+pub record IsLoaded (catalog : Catalog) : Type 0 where
+  pub schema : IsOneInt catalog.schema
+  pub parts : ((catalog.next ≡ 0) × (catalog.parts ≡ [])) ⊎ ((catalog.next ≡ 1) × (catalog.parts ≡ 0 ∷ []))
 
 abbrev pub catalog_bytes : Dataset → List ℕ
 catalog_bytes dataset = catalog_text (catalog_data dataset)

@@ -1,6 +1,6 @@
 -- Datasets of records, and the world of the datasets under their paths.
 use Rattle.std.specs.Prelude.{◌≡◌, ◌⊎◌, ℕ, ◌≤◌, List, [], ◌∷◌, length, Option}
-use Rattle.std.specs.List.{All}
+use Rattle.std.specs.List.{All, flat_map}
 use Rattle.std.specs.Ordering.{nat_cmp}
 use Rattle.std.specs.Cmp.Lexicographic.{slice_cmp}
 use Rattle.std.specs.FinMap.{FinMap, empty, get, insert}
@@ -20,6 +20,10 @@ pub record Dataset : Type 0 where
   pub schema : List Column
   pub next : ℕ
   pub parts : List Partition
+
+-- its records, part by part
+abbrev pub records_of : Dataset → List (List Cell)
+records_of dataset = flat_map (λ part. part.records) dataset.parts
 
 -- the datasets under their paths
 pub record World : Type 0 where
@@ -47,11 +51,13 @@ pub record IsOneInt (schema : List Column) : Type 0 where
   pub named : IsColumnName name
   pub is : schema ≡ record { name = name; ty = Int } ∷ []
 
--- Until a dataset takes more loads than one, it has no part, or the part of number 0 alone.
+-- Until a dataset takes more loads than one, it has no part, or the part of number 0 alone, with no more records than
+-- the input of one load has.
 pub record IsOnePart (dataset : Dataset) : Type 0 where
   pub records : List (List Cell)
   pub next : dataset.next ≡ 1
   pub part : dataset.parts ≡ record { number = 0; records = records } ∷ []
+  pub few : length records ≤ 500000
   pub valid : IsPartition dataset.schema (record { number = 0; records = records })
 
 pub record IsNoPart (dataset : Dataset) : Type 0 where

@@ -1,5 +1,5 @@
 use Rattle.std.proofs.Common.{◌≡◌, ◌≤◌, ◌∙◌, subst, Ok, List, ℕ, length, arith}
-use Rattle.fb_types.specs.SchemaText.{read_schema}
+use Rattle.ardea.specs.Load.{load_schema}
 use Rattle.csv_load.specs.Loaded.{loaded}
 use Rattle.ardea.specs.declared.TheConstants.{MAX_INPUT_BYTES}
 use Rattle.ardea.specs.Reading.{StopsAtRecords}
@@ -12,8 +12,8 @@ returns-in-Err-clause-stop g c =
 
 pub returns-clause-stop : goal.returns-clause-stop
 returns-clause-stop g c =
-    let spelled : read_schema c.args.load.now.schema ≡ Ok c.in-Ok-schema_of.schema =
-    subst (λ (t : List ℕ). read_schema t ≡ Ok c.in-Ok-schema_of.schema) (c.in-Ok.ensures.cases.0 ∙ c.bytes.ensures) c.in-Ok-schema_of.ensures.ok in
+    let spelled : load_schema c.args.load.now.schema ≡ Ok c.in-Ok-schema_of.schema =
+    subst (λ (t : List ℕ). load_schema t ≡ Ok c.in-Ok-schema_of.schema) (c.in-Ok.ensures.cases.0 ∙ c.bytes.ensures) c.in-Ok-schema_of.ensures.ok in
     let within : length c.in_ok-bytes.bytes.items ≤ MAX_INPUT_BYTES = omega (arith, c.in_ok-bytes.ensures.within, c.in_ok-bytes.bytes.ok) in
     let stop : StopsAtRecords (loaded c.in_ok-bytes.bytes.items c.in-Ok-schema_of.schema 0) c.in-Err-records_of.stop =
     subst (λ (t : List ℕ). StopsAtRecords (loaded t c.in-Ok-schema_of.schema 0) c.in-Err-records_of.stop) c.deref.ensures.value c.in-Err-records_of.ensures.stop in

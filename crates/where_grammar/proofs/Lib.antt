@@ -8,3 +8,4 @@ pub mod Cuts
 pub mod Divided
 pub mod Reread
 pub mod Laws
+pub mod Parts

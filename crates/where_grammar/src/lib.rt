@@ -3,7 +3,14 @@
 
 mod clause;
 mod parsing;
+#[cfg(test)]
+mod tests;
 mod token;
+mod truth;
 
 pub use clause::{Atom, Clause, ClauseFault, Op, QueryKind};
 pub use parsing::{after_where, parse_where};
+pub use truth::{
+    the_truth_of_a_negation, the_truth_of_clauses, the_truth_of_numbers, the_truth_of_patterns,
+    the_truth_of_words,
+};

@@ -1,5 +1,5 @@
 -- The reads of a store: each look at a name that has a file, refused ones too. None where they aren't told.
-use Rattle.std.specs.Prelude.{◌≡◌, ◌⊎◌, ℕ, List, [], ◌∷◌, ◌++◌, Option, Some, None, IsSome, is_some, option_map, if◌then◌else◌}
+use Rattle.std.specs.Prelude.{◌≡◌, ◌⊎◌, ℕ, List, [], ◌∷◌, ◌++◌, length, Option, Some, None, IsSome, IfSome, is_some, option_map, unwrap_or, if◌then◌else◌}
 use Rattle.std.specs.List.{AllByRecursion}
 use Rattle.fb_outside.specs.Files.{Files, file_at}
 
@@ -27,3 +27,9 @@ IsNoteOf (Some files) look added = added ≡ (if is_some (file_at files look.nam
 -- one look was made
 abbrev pub AddsRead : Option Files → Option (List Look) → Option (List Look) → Look → Type 0
 AddsRead files old new look = AddsReads old new (IsNoteOf files look)
+
+-- a look at a whole file from its beginning on, with as much room as the file has bytes where that is told
+pub record IsWholeLook (files : Option Files) (name : List ℕ) (look : Look) : Type 0 where
+  pub of_it : look.name ≡ name
+  pub from_start : look.offset ≡ 0
+  pub whole : IfSome files (λ m. look.room ≡ length (unwrap_or (file_at m name) []))

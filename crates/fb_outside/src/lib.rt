@@ -30,4 +30,4 @@ pub use outside::{Failed, Sink, Source, Store, Trouble};
 pub use read_note::ReadNote;
 pub use std_sink::StdSink;
 pub use std_source::StdSource;
-pub use whole::read_whole;
+pub use whole::{file_bytes, read_whole};

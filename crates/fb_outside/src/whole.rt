@@ -1,7 +1,7 @@
-ghost use Rattle.std.specs.Prelude.{◌≡◌, ◌≤◌, length, IfOk, IfSome, IsErrOf};
+ghost use Rattle.std.specs.Prelude.{◌≡◌, ◌≤◌, length, IfOk, IfSome, OnOk, IsErrOf, option_map};
 ghost use Rattle.fb_outside.specs.Causes.{HasCause};
-ghost use Rattle.fb_outside.specs.Files.{bytes_at, SameFiles};
-ghost use Rattle.fb_outside.specs.Reads.{AddsOnly, AddsRead};
+ghost use Rattle.fb_outside.specs.Files.{bytes_at, file_at, SameFiles};
+ghost use Rattle.fb_outside.specs.Reads.{AddsOnly, AddsRead, IsWholeLook};
 
 use crate::file_name::FileName;
 use crate::outside::{Store, Trouble};
@@ -34,6 +34,27 @@ pub fn read_whole<S: Store>(
             bytes.truncate(n);
             Ok(bytes)
         }
+        Err(_) => Err(Trouble::Failed),
+    }
+}
+
+/// All bytes of a file, or None where there is no such file: by a question for its length and one read of so many.
+pub fn file_bytes<S: Store>(
+    alloc: Global,
+    store: &mut S,
+    name: &FileName,
+) -> Result<Option<Vec<u8>>, Trouble>
+    ensures cause { HasCause (S.faults store.old) (S.faults store.new) (IsErrOf result Trouble.Failed) }
+    ensures given { IfOk result (λ bytes. IfSome (S.files store.old) (λ m. option_map (λ v. v.items) bytes ≡ file_at m name.now)) }
+    ensures files { SameFiles (S.files store.old) (S.files store.new) }
+    ensures reads { AddsOnly (IsWholeLook (S.files store.old) name.now) (S.reads store.old) (S.reads store.new) }
+{
+    match store.len(name.as_str()) {
+        Ok(None) => Ok(None),
+        Ok(Some(len)) => match read_whole(alloc, store, name, len as usize) {
+            Ok(bytes) => Ok(Some(bytes)),
+            Err(trouble) => Err(trouble),
+        },
         Err(_) => Err(Trouble::Failed),
     }
 }

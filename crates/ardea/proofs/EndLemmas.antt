@@ -63,6 +63,7 @@ goes_through load left files table h told fit =
       schema = h.one;
       fit = fit;
       few = h.few;
+      numbers = h.numbers;
     }
 
 pub ends_writing : (load : Load) (left : Option (List ℕ)) (old new : Option Files) (table : Table) (stop : Stop)

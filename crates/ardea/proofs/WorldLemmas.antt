@@ -12,7 +12,7 @@ use Rattle.command_words.specs.declared.Load.{Load}
 use Rattle.column_file.specs.Values.{values_bytes}
 use Rattle.part_meta.specs.FileNames.{catalog_name, values_name}
 use Rattle.statuses.specs.declared.Status.{Status}
-use Rattle.world.specs.World.{Dataset, World, IsDataset, IsOneInt, dataset_at}
+use Rattle.world.specs.World.{Dataset, World, IsDataset, IsNumber, IsOneInt, dataset_at}
 use Rattle.world.specs.Stands.{PartRests, Stands, column_numbers}
 use Rattle.world.specs.Effects.{Loads, after_one, loaded_dataset}
 use Rattle.world.proofs.MapLemmas.{get-insert_same}
@@ -45,9 +45,9 @@ absent_dataset load left m w table proper h goes =
 
 -- the dataset of a table that its one partition can hold is one
 pub loaded_is_dataset : (schema : List Column) (records : List (List Cell)) → IsOneInt schema → AllFit (record { schema = schema; records = records })
-    → length records ≤ 500000 → IsDataset (loaded_dataset schema records)
-loaded_is_dataset schema [] one fit few = record { schema = one; parts = inl (record { next = refl; none = refl }) }
-loaded_is_dataset schema (cells ∷ records) one fit few =
+    → length records ≤ 500000 → All IsNumber records → IsDataset (loaded_dataset schema records)
+loaded_is_dataset schema [] one fit few numbers = record { schema = one; parts = inl (record { next = refl; none = refl }) }
+loaded_is_dataset schema (cells ∷ records) one fit few numbers =
     record {
       schema = one;
       parts = inr (record {
@@ -55,6 +55,7 @@ loaded_is_dataset schema (cells ∷ records) one fit few =
         next = refl;
         part = refl;
         few = few;
+        numbers = numbers;
         valid = record { some = omega arith; few = omega arith; fit = fit };
       });
     }
@@ -89,10 +90,10 @@ stands_with_values path schema [] one m w none h = h
 stands_with_values path schema (cells ∷ records) one m w none h = stands_column path schema (cells ∷ records) one m w none h
 
 -- And once the catalog is put, the files stand for the world after the load.
-pub stands_with_all : (path : List ℕ) (table : Table) → IsOneInt table.schema → AllFit table → length table.records ≤ 500000
+pub stands_with_all : (path : List ℕ) (table : Table) → IsOneInt table.schema → AllFit table → length table.records ≤ 500000 → All IsNumber table.records
     → (m : Files) (w : World) → IsPath path → dataset_at w path ≡ None → Stands m w
     → Stands (with_catalog path table (with_values path table.schema table.records m)) (after_one w (Loads path table.schema table.records))
-stands_with_all path table one fit few m w proper none h =
+stands_with_all path table one fit few numbers m w proper none h =
     Stands-catalog (with_values path table.schema table.records m) w path (loaded_dataset table.schema table.records) proper
-    (loaded_is_dataset table.schema table.records one fit few) none (parts_rest path table.schema table.records one m)
+    (loaded_is_dataset table.schema table.records one fit few numbers) none (parts_rest path table.schema table.records one m)
     (stands_with_values path table.schema table.records one m w none h)

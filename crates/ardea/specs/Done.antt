@@ -1,10 +1,11 @@
 -- What a load leaves behind each of its answers.
 use Rattle.std.specs.Prelude.{◌≡◌, ◌⊎◌, ◌≤◌, ℕ, false, List, length, Option, IfSome, is_some, Result, Ok, Err}
+use Rattle.std.specs.List.{All}
 use Rattle.fb_outside.specs.Files.{Files, SameFiles, file_at}
 use Rattle.fb_types.specs.Table.{Table, AllFit}
 use Rattle.part_meta.specs.FileNames.{catalog_name}
 use Rattle.command_words.specs.declared.Load.{Load}
-use Rattle.world.specs.World.{IsOneInt}
+use Rattle.world.specs.World.{IsNumber, IsOneInt}
 use Rattle.statuses.specs.declared.stop.Stop.{Stop}
 use Rattle.statuses.specs.declared.stop.Stop.TheVariants.{Refused, ReadFault, StoreFault, OutOfMemory}
 use Rattle.ardea.specs.Load.{Gives}
@@ -17,6 +18,7 @@ pub record GoesThrough (load : Load) (left : Option (List ℕ)) (files : Option 
   pub schema : IsOneInt table.schema
   pub fit : AllFit table
   pub few : length table.records ≤ 500000
+  pub numbers : All IsNumber table.records
 
 -- `old` and `new` are the files before and after: all of a load's are written where it is done, some where it stopped
 -- while it wrote, and none where it is refused or its input failed.

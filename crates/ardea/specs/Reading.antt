@@ -1,11 +1,12 @@
 -- What reading the records of a load tells of its definition.
 use Rattle.std.specs.Prelude.{◌≡◌, ⊤, ◌≤◌, ℕ, Bool, List, length, Option, IfSome, Result, Ok, Err}
+use Rattle.std.specs.List.{All}
 use Rattle.fb_types.specs.declared.cells.Cell.{Cell}
 use Rattle.fb_types.specs.declared.schemas.Column.{Column}
 use Rattle.fb_types.specs.Table.{Table}
 use Rattle.csv_load.specs.Loaded.{Fault, loaded}
 use Rattle.command_words.specs.declared.Load.{Load}
-use Rattle.world.specs.World.{IsOneInt}
+use Rattle.world.specs.World.{IsNumber, IsOneInt}
 use Rattle.statuses.specs.declared.Status.{Status}
 use Rattle.statuses.specs.declared.stop.Stop.{Stop}
 use Rattle.statuses.specs.declared.stop.Stop.TheVariants.{Refused, ReadFault, StoreFault, OutOfMemory}
@@ -21,6 +22,7 @@ pub record IsRead (load : Load) (left : Option (List ℕ)) (table : Table) : Typ
   pub within : length input ≤ MAX_INPUT_BYTES
   pub records : loaded input table.schema 0 ≡ Ok table.records
   pub few : length table.records ≤ 500000
+  pub numbers : All IsNumber table.records
 
 -- whether or not the path has a dataset, the load of the input is refused so
 pub record IsRefused (load : Load) (left : Option (List ℕ)) (status : Status) : Type 0 where

@@ -1,10 +1,10 @@
 //! The records of a load's input.
 
-ghost use Rattle.std.specs.Prelude.{◌≡◌, ◌≤◌, ◌+◌, ◌*◌, Ok, IfOk, IfErr, IsErrOf, OnOk, IsUtf8, length, vec_len};
+ghost use Rattle.std.specs.Prelude.{◌≡◌, ◌≤◌, ◌+◌, ◌*◌, All, Ok, IfOk, IfErr, IsErrOf, OnOk, IsUtf8, length, vec_len};
 ghost use Rattle.fb_outside.specs.Causes.{HasCause};
 ghost use Rattle.fb_outside.specs.Streams.{IsAtEnd, Takes};
 ghost use Rattle.fb_types.specs.SchemaText.{IsFaultOf, read_schema};
-ghost use Rattle.world.specs.World.{IsOneInt};
+ghost use Rattle.world.specs.World.{IsNumber, IsOneInt};
 ghost use Rattle.ardea.specs.Load.{is_int, load_schema, not_loadable};
 ghost use Rattle.csv_load.specs.Answers.{IsRecordFault};
 ghost use Rattle.csv_load.specs.Input.{Explains};
@@ -107,6 +107,7 @@ fn records_of(alloc: Global, bytes: &[u8], schema: &Schema) -> Result<Columns, S
     ensures schema { IfOk result (λ columns. columns.schema ≡ schema.now) }
     ensures records { IfOk result (λ columns. loaded bytes.now schema.now 0 ≡ Ok columns.records) }
     ensures few { IfOk result (λ columns. 2 * length columns.records ≤ length bytes.now + 1) }
+    ensures numbers { IsOneInt schema.now → IfOk result (λ columns. All IsNumber columns.records) }
     ensures stop { IfErr result (StopsAtRecords (loaded bytes.now schema.now 0)) }
 {
     match records(alloc, bytes, schema, 0) {

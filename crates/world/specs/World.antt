@@ -1,10 +1,11 @@
 -- Datasets of records, and the world of the datasets under their paths.
-use Rattle.std.specs.Prelude.{◌≡◌, ◌⊎◌, ℕ, ◌≤◌, List, [], ◌∷◌, length, Option}
+use Rattle.std.specs.Prelude.{◌≡◌, ◌⊎◌, ℕ, ℤ, ◌≤◌, List, [], ◌∷◌, length, Option}
 use Rattle.std.specs.List.{All, flat_map}
 use Rattle.std.specs.Ordering.{nat_cmp}
 use Rattle.std.specs.Cmp.Lexicographic.{slice_cmp}
 use Rattle.std.specs.FinMap.{FinMap, empty, get, insert}
 use Rattle.fb_types.specs.declared.cells.Cell.{Cell}
+use Rattle.fb_types.specs.declared.cells.Cell.TheVariants.{Whole}
 use Rattle.fb_types.specs.declared.schemas.Column.{Column}
 use Rattle.fb_types.specs.declared.types.ColType.TheVariants.{Int}
 use Rattle.fb_types.specs.Cells.{RecordFits}
@@ -51,13 +52,18 @@ pub record IsOneInt (schema : List Column) : Type 0 where
   pub named : IsColumnName name
   pub is : schema ≡ record { name = name; ty = Int } ∷ []
 
+-- a record of one number
+abbrev pub IsNumber : List Cell → Type 0
+IsNumber cells = (number : ℤ) × (cells ≡ Whole number ∷ [])
+
 -- Until a dataset takes more loads than one, it has no part, or the part of number 0 alone, with no more records than
--- the input of one load has.
+-- the input of one load has. And until nulls load, no cell is null.
 pub record IsOnePart (dataset : Dataset) : Type 0 where
   pub records : List (List Cell)
   pub next : dataset.next ≡ 1
   pub part : dataset.parts ≡ record { number = 0; records = records } ∷ []
   pub few : length records ≤ 500000
+  pub numbers : All IsNumber records
   pub valid : IsPartition dataset.schema (record { number = 0; records = records })
 
 pub record IsNoPart (dataset : Dataset) : Type 0 where

@@ -1,0 +1,20 @@
+use Rattle.std.proofs.Common.{[], ◌∷◌, ◌∙◌, ap, pos, rules}
+use mir.Syntax.{w8}
+use mir.Val.{SFits}
+use Rattle.fb_types.specs.declared.types.ColType.TheVariants.{Byte}
+use Rattle.column_file.specs.Values.{number_bytes, values_bytes}
+use Rattle.column_file.proofs.ValuesLemmas.{one_byte, small_signed, values-step, next, signed, fits_8, wide_8}
+use Rattle.column_file.proofs.numbers.byte_values.Goals as goal
+
+pub loop-value-init : goal.loop-value-init
+unfolding values_bytes
+loop-value-init c = search rules
+
+pub loop-value-preserved : goal.loop-value-preserved
+unfolding number_bytes
+loop-value-preserved c =
+    let at = c.requires c.loop-value.value-index (pos 0) c.loop-value-test.true in
+    let narrow : SFits w8 (next c.args.values.now c.loop-value.value-index) = fits_8 _ at.0 at.1 in
+    let same = signed w8 (next c.args.values.now c.loop-value.value-index) narrow (wide_8 _ narrow) in
+    values-step Byte c.args.values.now c.loop-value.value-index c.loop-value.bytes.items c.extend_from_slice.new.self.items c.to_le_bytes.result
+    c.loop-value-test.true c.loop-value.invariant (c.to_le_bytes.ensures ∙ ap (λ n. n ∷ []) same ∙ one_byte _ (small_signed _ narrow)) c.in_ok-extend_from_slice.ensures.items

@@ -1,0 +1,19 @@
+use Rattle.std.proofs.Common.{◌^◌, ◌-◌, ◌∙◌, ap, pos, arith, rules}
+use mir.Syntax.{w32}
+use Rattle.std.specs.Int.{to_le_bytes}
+use Rattle.fb_types.specs.declared.types.ColType.TheVariants.{UInt}
+use Rattle.column_file.specs.Values.{number_bytes, values_bytes}
+use Rattle.column_file.proofs.ValuesLemmas.{values-step, next, plain}
+use Rattle.column_file.proofs.numbers.uint_values.Goals as goal
+
+pub loop-value-init : goal.loop-value-init
+unfolding values_bytes
+loop-value-init c = search rules
+
+pub loop-value-preserved : goal.loop-value-preserved
+unfolding number_bytes
+loop-value-preserved c =
+    let at = c.requires c.loop-value.value-index (pos 0) c.loop-value-test.true in
+    let same = plain w32 (2 ^ 32 - 1) (next c.args.values.now c.loop-value.value-index) (omega arith) at.0 at.1 in
+    values-step UInt c.args.values.now c.loop-value.value-index c.loop-value.bytes.items c.extend_from_slice.new.self.items c.to_le_bytes.result
+    c.loop-value-test.true c.loop-value.invariant (c.to_le_bytes.ensures ∙ ap (to_le_bytes w32) same) c.in_ok-extend_from_slice.ensures.items

@@ -1,0 +1,4 @@
+pub mod Query
+pub mod Count
+pub mod Found
+pub mod Steps

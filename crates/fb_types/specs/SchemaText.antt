@@ -115,10 +115,13 @@ read_schema text =
 
 -- ---- answers of `parse_schema`
 
--- the fault is that of the text, unless memory ran out
+-- the fault is the one that is defined, unless memory ran out
+abbrev pub IsFaultIn : MetaFault → Result (List Column) SchemaFault → Type 0
+IsFaultIn (Bad column kind) defined = defined ≡ Err (record { column = column; kind = kind })
+IsFaultIn OutOfMemory defined = Unit {0}
+
 abbrev pub IsFaultOf : MetaFault → List ℕ → Type 0
-IsFaultOf (Bad column kind) text = read_schema text ≡ Err (record { column = column; kind = kind })
-IsFaultOf OutOfMemory text = Unit {0}
+IsFaultOf fault text = IsFaultIn fault (read_schema text)
 
 -- these columns were read, unless memory ran out
 abbrev pub AreRead : List Column → Result (List Column) MetaFault → Type 0

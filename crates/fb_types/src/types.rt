@@ -63,7 +63,7 @@ impl ColType {
 
     /// The word of the type in a schema text.
     #[tactic(auto, unfolding(crate::specs::Types::type_name))]
-    pub(crate) fn name(self) -> &'static str
+    pub fn name(self) -> &'static str
         ensures { result.now ≡ type_name self }
     {
         match self {
@@ -80,9 +80,9 @@ impl ColType {
         }
     }
 
-    /// The type that `word` names in a schema text.
+    /// The type of that word in a schema text; `None` where no type has it.
     #[tactic(auto, unfolding(crate::specs::SchemaText::type_named))]
-    pub(crate) fn named(word: &[u8]) -> Option<ColType>
+    pub fn named(word: &[u8]) -> Option<ColType>
         ensures { result ≡ type_named word.now }
     {
         TYPES

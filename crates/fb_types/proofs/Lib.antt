@@ -1,7 +1,11 @@
+pub mod BlankFacts
 pub mod CellFacts
+pub mod EachFacts
 pub mod FieldFacts
+pub mod ItemFacts
 pub mod NameFacts
 pub mod RowFacts
 pub mod SchemaFacts
+pub mod SchemaLaws
 pub mod SlotFacts
 pub mod TextFacts

@@ -19,7 +19,7 @@ all_mapped : {X : Type 0} (f : X → Bool) (xs : List X) → list_all (λ b. b) 
 all_mapped f [] = refl
 all_mapped f (x ∷ xs) = ap (λ b. f x && b) (all_mapped f xs)
 
-pub holds-one : (condition : Atom) (columns : List Column) (cells : List Cell) → holds (clause.One condition) columns cells ≡ atom_holds columns cells condition
+pub holds-one : (condition : Atom) (columns : List Column) (cells : List Cell) → holds (clause.One condition) columns cells ≡ atom_holds condition columns cells
 holds-one condition columns cells =
     let step = holds_by_parts columns cells in
     ap (fold-Clause Bool step) (sym (rolls-One condition)) ∙ fold-roll-Clause Bool step (Clause-F.One condition)

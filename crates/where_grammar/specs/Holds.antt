@@ -1,6 +1,7 @@
 -- When a clause holds of a record.
 use Rattle.std.specs.Prelude.{ℕ, Bool, true, false, not, ◌&&◌, List, [], ◌∷◌, Option, Some, None, ℤ, int_lt, int_le, slice_index_or}
 use Rattle.std.specs.List.{list_all, list_any}
+use Rattle.std.specs.Ordering.{int_eq}
 use Rattle.std.specs.Str.{bytes_eq}
 use Rattle.fb_types.specs.declared.cells.Cell.{Cell}
 use Rattle.fb_types.specs.declared.cells.Cell.TheVariants.{Null, Whole, Word}
@@ -40,29 +41,41 @@ is_there Null = false
 is_there (Whole number) = true
 is_there (Word word) = true
 
-abbrev pub int_equal : ℤ → ℤ → Bool
-int_equal a b = int_le a b && int_le b a
-
 -- a number stands so to a limit
 abbrev pub compares : Op → ℤ → ℤ → Bool
 compares op.Less number limit = int_lt number limit
 compares op.LessEq number limit = int_le number limit
 compares op.Greater number limit = int_lt limit number
 compares op.GreaterEq number limit = int_le limit number
-compares op.Equal number limit = int_equal number limit
-compares op.Differs number limit = not (int_equal number limit)
+compares op.Equal number limit = int_eq number limit
+compares op.Differs number limit = not (int_eq number limit)
 
--- the truth of a condition; on a null cell each is false
-abbrev pub atom_holds : List Column → List Cell → Atom → Bool
-atom_holds columns cells (atom.Compare name by value) = number_passes (λ n. compares by n value) (cell_named columns cells name)
-atom_holds columns cells (atom.Double name left low right high) = number_passes (λ n. compares left n low && compares right n high) (cell_named columns cells name)
-atom_holds columns cells (atom.Between name low high) = number_passes (λ n. int_le low n && int_le n high) (cell_named columns cells name)
-atom_holds columns cells (atom.Numbers name list) = number_passes (λ n. list_any (int_equal n) list) (cell_named columns cells name)
-atom_holds columns cells (atom.Same name text) = word_passes (λ word. bytes_eq word text) (cell_named columns cells name)
-atom_holds columns cells (atom.Other name text) = word_passes (λ word. not (bytes_eq word text)) (cell_named columns cells name)
-atom_holds columns cells (atom.Texts name list) = word_passes (λ word. list_any (bytes_eq word) list) (cell_named columns cells name)
-atom_holds columns cells (atom.Like name pattern) = word_passes (like pattern) (cell_named columns cells name)
-atom_holds columns cells (atom.Exists name) = is_there (cell_named columns cells name)
+-- the column that a condition speaks of
+abbrev pub name_in : Atom → List ℕ
+name_in (atom.Compare name by value) = name
+name_in (atom.Double name left low right high) = name
+name_in (atom.Between name low high) = name
+name_in (atom.Numbers name list) = name
+name_in (atom.Same name text) = name
+name_in (atom.Other name text) = name
+name_in (atom.Texts name list) = name
+name_in (atom.Like name pattern) = name
+name_in (atom.Exists name) = name
+
+-- the truth of a condition on the cell of its column; on a null cell each is false
+abbrev pub is_met : Atom → Cell → Bool
+is_met (atom.Compare name by value) = number_passes (λ n. compares by n value)
+is_met (atom.Double name left low right high) = number_passes (λ n. compares left n low && compares right n high)
+is_met (atom.Between name low high) = number_passes (λ n. int_le low n && int_le n high)
+is_met (atom.Numbers name list) = number_passes (λ n. list_any (int_eq n) list)
+is_met (atom.Same name text) = word_passes (λ word. bytes_eq word text)
+is_met (atom.Other name text) = word_passes (λ word. not (bytes_eq word text))
+is_met (atom.Texts name list) = word_passes (λ word. list_any (bytes_eq word) list)
+is_met (atom.Like name pattern) = word_passes (like pattern)
+is_met (atom.Exists name) = is_there
+
+abbrev pub atom_holds : Atom → List Column → List Cell → Bool
+atom_holds condition columns cells = is_met condition (cell_named columns cells (name_in condition))
 
 -- ---- clauses
 
@@ -78,7 +91,7 @@ holds_by_parts columns cells (Clause-F.Or parts) = list_any (λ part. part) part
 holds_by_parts columns cells (Clause-F.Xor parts) = odd_many parts
 holds_by_parts columns cells (Clause-F.And parts) = list_all (λ part. part) parts
 holds_by_parts columns cells (Clause-F.Not part) = not part
-holds_by_parts columns cells (Clause-F.One condition) = atom_holds columns cells condition
+holds_by_parts columns cells (Clause-F.One condition) = atom_holds condition columns cells
 
 -- the clause holds of the record with these cells, under the schema with these columns
 abbrev pub holds : Clause → List Column → List Cell → Bool

@@ -21,4 +21,4 @@ words = Null ∷ Word (codes "w") ∷ Word (codes "w5") ∷ Word (codes "x") ∷
 
 -- the truth of a condition on a record of each cell
 unfoldable pub truths : Atom → List Cell → List Bool
-truths condition cells = map (λ cell. atom_holds columns (cell ∷ []) condition) cells
+truths condition cells = map (λ cell. atom_holds condition columns (cell ∷ [])) cells

@@ -16,7 +16,7 @@ use crate::clause::{Atom, Clause, Op};
 /// A clause holds as its parts do: `Or` where some part holds, `And` where all do, `Xor` where an odd number do,
 /// `Not` where its part doesn't.
 pub fn the_truth_of_clauses()
-    ensures one { (condition : Atom) (columns : List Column) (cells : List Cell) → holds (Clause.One condition) columns cells ≡ atom_holds columns cells condition }
+    ensures one { (condition : Atom) (columns : List Column) (cells : List Cell) → holds (Clause.One condition) columns cells ≡ atom_holds condition columns cells }
     ensures not { (part : Clause) (columns : List Column) (cells : List Cell) → holds (Clause.Not part) columns cells ≡ not (holds part columns cells) }
     ensures or { (parts : List Clause) (columns : List Column) (cells : List Cell) → holds (Clause.Or parts) columns cells ≡ list_any (λ part. holds part columns cells) parts }
     ensures and { (parts : List Clause) (columns : List Column) (cells : List Cell) → holds (Clause.And parts) columns cells ≡ list_all (λ part. holds part columns cells) parts }

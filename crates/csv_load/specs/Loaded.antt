@@ -1,6 +1,7 @@
 -- The records that a load keeps of a CSV text, or its first fault.
 use Rattle.std.specs.Prelude.{◌==◌, ◌+◌, ℕ, List, [], ◌∷◌, ◌++◌, Result, Ok, Err, drop, if◌then◌else◌, is_some, length, map, min, nat_le}
 use Rattle.csv.specs.Reading.{default_config, records, strip_bom}
+pub use Rattle.fb_types.specs.AllOrFirst.{all_or_first, behind}
 use Rattle.fb_types.specs.Field.{field_answer}
 use Rattle.fb_types.specs.Types.{ends_of}
 use Rattle.fb_types.specs.declared.cells.Cell.{Cell}
@@ -38,17 +39,6 @@ unfoldable pub field_cells : List Column → List (List ℕ) → List (Result Ce
 field_cells [] fields = []
 field_cells (column ∷ columns) [] = []
 field_cells (column ∷ columns) (field ∷ fields) = field_cell column.ty field ∷ field_cells columns fields
-
--- a list with these in front, where there is a list
-abbrev pub behind : {A E : Type 0} → List A → Result (List A) E → Result (List A) E
-behind front (Ok rest) = Ok (front ++ rest)
-behind front (Err e) = Err e
-
--- all the values, or the first that is missing: its number, counted from n, and why it is
-unfoldable pub all_or_first : {A E : Type 0} → ℕ → List (Result A E) → Result (List A) (ℕ × E)
-all_or_first n [] = Ok []
-all_or_first n (Ok value ∷ rest) = behind (value ∷ []) (all_or_first (n + 1) rest)
-all_or_first n (Err why ∷ rest) = Err (n, why)
 
 -- the cells of a record, or its first bad field, counted from 1. Where there isn't one field for each column, that is the
 -- first field that is missing or too many.

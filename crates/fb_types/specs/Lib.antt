@@ -1,3 +1,4 @@
+pub mod AllOrFirst
 pub mod Cells
 pub mod Field
 pub mod Names

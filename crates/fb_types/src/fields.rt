@@ -81,7 +81,7 @@ fn natural(digits: &[u8]) -> Option<u128>
     Some(value)
 }
 
-fn trimmed(field: &[u8]) -> &[u8]
+pub(crate) fn trimmed(field: &[u8]) -> &[u8]
     ensures { result.now ≡ trimmed_bytes field.now }
 {
     let text = &field[leading_blanks(field)..];
@@ -102,7 +102,7 @@ fn trailing_blanks(bytes: &[u8]) -> usize
     bytes.iter().rev().take_while(|b| is_blank(**b)).count()
 }
 
-fn is_blank(byte: u8) -> bool
+pub(crate) fn is_blank(byte: u8) -> bool
     ensures { result ≡ is_blank_byte byte }
 {
     byte == b' ' || byte == b'\t'

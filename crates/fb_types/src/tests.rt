@@ -3,18 +3,6 @@ use std::alloc::Global;
 use std::process::Abort;
 use std::test::Fail;
 
-fn two_columns(alloc: Global, rt: &impl Abort) -> Result<Schema, Fail> {
-    let mut schema = parse_schema(alloc, "A:int")?;
-    let name = ColName::from_bytes(alloc, b"b")?.expect(rt, "a name");
-    assert!(rt; schema.place(name.bytes()).is_none());
-    assert!(rt; schema.columns().len() < 255);
-    schema.add(Column {
-        name,
-        ty: ColType::Category,
-    })?;
-    Ok(schema)
-}
-
 #[test]
 fn names(rt: HostRuntime) -> Result<(), Fail> {
     let alloc = rt.alloc();
@@ -52,34 +40,84 @@ fn names(rt: HostRuntime) -> Result<(), Fail> {
 #[test]
 fn schemas(rt: HostRuntime) -> Result<(), Fail> {
     let alloc = rt.alloc();
-    for text in [
-        "",
-        "a",
-        "a:",
-        "a:byte",
-        " a:int",
-        "a:int ",
-        "a: int",
-        "by:int",
-        "2a:int",
-        "a:int,b:int",
-        ":int",
-        "a:INT",
+    for (text, printed) in [
+        ("a:int, B:category", "a:int,b:category"),
+        ("\t_9 :\tubyte \t", "_9:ubyte"),
+        (
+            "a:byte,b:ubyte,c:short,d:ushort,e:int,f:uint,g:long,h:ulong,i:category,j:text",
+            "a:byte,b:ubyte,c:short,d:ushort,e:int,f:uint,g:long,h:ulong,i:category,j:text",
+        ),
+        ("INT:int,Orders:text", "int:int,orders:text"),
     ] {
-        match parse_schema(alloc, text) {
-            Err(MetaFault::Bad { column, kind }) => {
-                assert_eq!(rt; column, 1, "at {text}");
-                assert_eq!(rt; kind, SchemaKind::BadType, "at {text}");
-            }
-            _ => assert!(rt; false, "at {text}"),
-        }
+        assert!(rt; prints_as(alloc, text, printed)?, "at {text}");
     }
-    let schema = parse_schema(alloc, "A:int")?;
-    assert!(rt; print_schema(alloc, &schema)?.bytes() == b"a:int".as_slice());
-    let schema = two_columns(alloc, &rt)?.copy(alloc)?;
-    assert!(rt; print_schema(alloc, &schema)?.bytes() == b"a:int,b:category".as_slice());
+    let schema = parse_schema(alloc, "A:int,b:category")?.copy(alloc)?;
     assert_eq!(rt; schema.place(b"b"), Some(1));
     assert_eq!(rt; schema.place(b"B"), None);
+    Ok(())
+}
+
+fn prints_as(alloc: Global, text: &str, printed: &str) -> Result<bool, Fail> {
+    let schema = parse_schema(alloc, text)?.copy(alloc)?;
+    Ok(print_schema(alloc, &schema)?.bytes() == printed.as_bytes())
+}
+
+#[test]
+fn refused_schemas(rt: HostRuntime) -> Result<(), Fail> {
+    let alloc = rt.alloc();
+    for (text, column, kind) in [
+        ("", 0, SchemaKind::Empty),
+        (" \t ", 0, SchemaKind::Empty),
+        ("a:int,a:byte", 2, SchemaKind::Repeated),
+        ("a:int,b:int,A :text,b:int", 3, SchemaKind::Repeated),
+        ("a:real", 1, SchemaKind::BadType),
+        ("a:INT", 1, SchemaKind::BadType),
+        ("a", 1, SchemaKind::BadType),
+        ("a:", 1, SchemaKind::BadType),
+        ("a:int:int", 1, SchemaKind::BadType),
+        ("a:int,a:real", 2, SchemaKind::BadType),
+        ("a:in t", 1, SchemaKind::BadType),
+        ("a:\nint", 1, SchemaKind::BadType),
+        ("2a:int", 1, SchemaKind::BadName),
+        ("select:int", 1, SchemaKind::BadName),
+        ("x:int, By:int", 2, SchemaKind::BadName),
+        ("a b:int", 1, SchemaKind::BadName),
+        (":int", 1, SchemaKind::BadName),
+        ("int", 1, SchemaKind::BadType),
+        (",", 1, SchemaKind::BadName),
+        ("a:int,", 2, SchemaKind::BadName),
+        ("a:int,:real,a:int", 2, SchemaKind::BadName),
+    ] {
+        assert!(rt; is_refused(alloc, text, column, kind), "at {text}");
+    }
+    Ok(())
+}
+
+fn is_refused(alloc: Global, text: &str, column: u32, kind: SchemaKind) -> bool {
+    match parse_schema(alloc, text) {
+        Err(
+            MetaFault::Bad {
+                column: place,
+                kind: fault,
+            },
+        ) => place == column && fault == kind,
+        _ => false,
+    }
+}
+
+#[test]
+fn widest_schemas(rt: HostRuntime) -> Result<(), Fail> {
+    let alloc = rt.alloc();
+    let mut text = String::new(alloc);
+    for n in 0..255u32 {
+        if n > 0 {
+            text.push_str(",")?;
+        }
+        text.push_str(&format!(in alloc; "c{n}:int")?)?;
+    }
+    assert_eq!(rt; parse_schema(alloc, &text)?.columns().len(), 255);
+    text.push_str(",")?;
+    assert!(rt; is_refused(alloc, &text, 256, SchemaKind::TooMany));
     Ok(())
 }
 
@@ -138,7 +176,7 @@ fn fields(rt: HostRuntime) {
 #[test]
 fn tables(rt: HostRuntime) -> Result<(), Fail> {
     let alloc = rt.alloc();
-    let mut columns = Columns::make(alloc, &two_columns(alloc, &rt)?)?;
+    let mut columns = Columns::make(alloc, &parse_schema(alloc, "A:int,b:category")?)?;
     assert_eq!(rt; columns.rows(), 0);
     push(
         &rt,

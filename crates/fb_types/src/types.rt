@@ -1,4 +1,5 @@
 ghost use Rattle.std.specs.Prelude.{◌≡◌};
+ghost use Rattle.fb_types.specs.SchemaText.{type_named};
 ghost use Rattle.fb_types.specs.Types.{width_of, ends_of, type_name};
 
 /// The type of a column: a whole number with or without a sign, one of a few words, or any text.
@@ -15,6 +16,19 @@ pub enum ColType {
     Category,
     Text,
 }
+
+pub(crate) const TYPES: [ColType; 10] = [
+    ColType::Byte,
+    ColType::UByte,
+    ColType::Short,
+    ColType::UShort,
+    ColType::Int,
+    ColType::UInt,
+    ColType::Long,
+    ColType::ULong,
+    ColType::Category,
+    ColType::Text,
+];
 
 impl ColType {
     /// Bytes that a value takes in a values file; `None` for `Text`.
@@ -64,5 +78,16 @@ impl ColType {
             ColType::Category => "category",
             ColType::Text => "text",
         }
+    }
+
+    /// The type that `word` names in a schema text.
+    #[tactic(auto, unfolding(crate::specs::SchemaText::type_named))]
+    pub(crate) fn named(word: &[u8]) -> Option<ColType>
+        ensures { result ≡ type_named word.now }
+    {
+        TYPES
+            .iter()
+            .copied()
+            .find(|ty| ty.name().as_bytes() == word)
     }
 }

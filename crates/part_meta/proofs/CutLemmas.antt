@@ -1,9 +1,12 @@
 -- A text cut into its lines, and the first wrong one of them.
-use Rattle.std.proofs.Common.{◌≡◌, ◌≢◌, ℕ, ◌+◌, ◌-◌, ◌<◌, ◌≤◌, ◌==◌, true, false, List, [], ◌∷◌, ◌++◌, length, take, drop, refl, sym, ap, ◌∙◌, subst, arith, append_assoc, ne_eqb, eqb-true, cond, Bool, inl, inr, ◌⊎◌}
+use Rattle.std.proofs.Common.{◌≡◌, ◌≢◌, ℕ, ◌+◌, ◌-◌, ◌<◌, ◌≤◌, ◌==◌, true, false, List, [], ◌∷◌, ◌++◌, length, take, drop, refl, sym, ap, ◌∙◌, subst, arith, append_assoc, ne_eqb, eqb-true, cond, Bool, inl, inr, ◌⊎◌, Result, Ok, Err, IfOk}
 use Rattle.std.specs.List.{AllByRecursion}
 use Rattle.std.proofs.lemmas.List.{append-nil, take_at, append_cancel_right, take-append-drop, length-append}
 use Rattle.std.proofs.lemmas.List.Elements.{recursion_from_All}
 use Rattle.std.proofs.lemmas.Bool.{cases_lt}
+use Rattle.part_meta.specs.Faults.{Gives, Reads}
+use Rattle.part_meta.specs.declared.fault.MetaTextFault.{MetaTextFault}
+use Rattle.part_meta.specs.declared.fault.MetaTextFault.TheVariants.{At, OutOfMemory}
 use Rattle.part_meta.specs.Lines.{line, joined, begun_by, lines_in, IsUnbroken, Begins, IsFirstWrong}
 
 abbrev Unbroken : List ℕ → Type 0
@@ -76,7 +79,7 @@ line_among [] (f ∷ front) l rest h e = absurd (cc)
 line_among (k ∷ ks) [] l rest h e = let same : k ≡ l = cc in subst IsLine same h.0
 line_among (k ∷ ks) (f ∷ front) l rest h e = line_among ks front l rest h.1 (cc)
 
-step_in : (front : List (List ℕ)) (l : List ℕ) (rest : List (List ℕ)) → front ++ l ∷ rest ≡ (front ++ l ∷ []) ++ rest
+pub step_in : (front : List (List ℕ)) (l : List ℕ) (rest : List (List ℕ)) → front ++ l ∷ rest ≡ (front ++ l ∷ []) ++ rest
 step_in front l rest = sym (append_assoc front (l ∷ []) rest)
 
 length_front : (front : List (List ℕ)) (l : List ℕ) → length (front ++ l ∷ []) ≡ length front + 1
@@ -86,7 +89,7 @@ length_front front l = length-append front (l ∷ [])
 pub wrong_line : {A : Type 0} (IsOf : A → Type 0) (lines : A → List (List ℕ)) (bytes : List ℕ) (front : List (List ℕ)) (l : List ℕ) (rest : List (List ℕ)) (k : ℕ)
     → lines_in bytes ≡ front ++ l ∷ rest → k ≡ length front + 1 → Begins IsOf lines front → (Begins IsOf lines (front ++ l ∷ []) → ⊥) → IsFirstWrong IsOf lines bytes k
 wrong_line {A} IsOf lines bytes front l rest k cut counted before wrong =
-    let all : length (lines_in bytes) ≡ length front + (1 + length rest) = ap length cut ∙ length-append front (l ∷ rest) in
+    let all : length (lines_in bytes) ≡ length front + (1 + length rest) = omega (arith, ap length cut, length-append front (l ∷ rest)) in
     let up_to : take (k - 1) (lines_in bytes) ≡ front = ap (take (k - 1)) cut ∙ take_at front (l ∷ rest) (k - 1) (omega arith) in
     let with_it : take k (lines_in bytes) ≡ front ++ l ∷ [] =
     ap (take k) (cut ∙ step_in front l rest) ∙ take_at (front ++ l ∷ []) rest k (omega (arith, length_front front l)) in
@@ -124,3 +127,31 @@ whole_is_right {A} IsOf lines bytes k x each valid is wrong =
       spelled = sym cut ∙ sym (take-append-drop k (lines_in bytes));
     }) in
     elim (cases_lt (length (lines_in bytes)) k) [ inl large ↦ wrong.ended large x valid (sym cut) | inr small ↦ within small ]
+
+-- bytes behind whole lines that no line feed ends
+pub unended : {A : Type 0} (IsOf : A → Type 0) (lines : A → List (List ℕ)) (each : (x : A) → IsOf x → AllByRecursion IsLine (lines x)) (bytes : List ℕ) (front : List (List ℕ)) (rest : List ℕ) (k : ℕ)
+    → lines_in bytes ≡ front ++ lines_in rest → k ≡ length front + 1 → Begins IsOf lines front → IsUnbroken rest → (length rest == 0) ≡ false → IsFirstWrong IsOf lines bytes k
+unended {A} IsOf lines each bytes front [] k cut counted before unbroken some = absurd (cc)
+unended {A} IsOf lines each bytes front (b ∷ bs) k cut counted before unbroken some =
+    let last : lines_in (b ∷ bs) ≡ (b ∷ bs) ∷ [] = lines_in-unbroken b bs unbroken in
+    wrong_line IsOf lines bytes front (b ∷ bs) [] k (cut ∙ ap (λ t. front ++ t) last) counted before
+    (λ begins. unbroken_is_no_line (b ∷ bs) unbroken (line_among (lines begins.value) front (b ∷ bs) begins.rest (each begins.value begins.valid) begins.spelled))
+
+-- ---- what a reader answers
+
+pub reads_found : {A : Type 0} (IsOf : A → Type 0) (lines : A → List (List ℕ)) (bytes : List ℕ) (r : Result A MetaTextFault) → Reads IsOf lines bytes r → IfOk r (λ x. bytes ≡ joined (lines x))
+reads_found {A} IsOf lines bytes (Ok x) h = sym (joined-lines_in bytes) ∙ ap joined h.1
+reads_found {A} IsOf lines bytes (Err e) h = tt
+
+pub reads_exact : {A : Type 0} (IsOf : A → Type 0) (lines : A → List (List ℕ)) (each : (x : A) → IsOf x → AllByRecursion IsLine (lines x)) (one : (x y : A) → IsOf x → IsOf y → lines x ≡ lines y → x ≡ y)
+    (bytes : List ℕ) (r : Result A MetaTextFault) → Reads IsOf lines bytes r → (x : A) → IsOf x → bytes ≡ joined (lines x) → Gives r x
+reads_exact {A} IsOf lines each one bytes (Ok y) h x valid is =
+    one y x h.0 valid (sym h.1 ∙ ap lines_in is ∙ lines_in-joined (lines x) (each x valid))
+reads_exact {A} IsOf lines each one bytes (Err (At k)) h x valid is = whole_is_right IsOf lines bytes k x (each x valid) valid is h
+reads_exact {A} IsOf lines each one bytes (Err OutOfMemory) h x valid is = tt
+
+-- a text has the lines of one value alone
+pub one_text : {A : Type 0} (IsOf : A → Type 0) (lines : A → List (List ℕ)) (each : (x : A) → IsOf x → AllByRecursion IsLine (lines x)) (one : (x y : A) → IsOf x → IsOf y → lines x ≡ lines y → x ≡ y)
+    → (x y : A) → IsOf x → IsOf y → joined (lines x) ≡ joined (lines y) → x ≡ y
+one_text {A} IsOf lines each one x y h k e =
+    one x y h k (sym (lines_in-joined (lines x) (each x h)) ∙ ap lines_in e ∙ lines_in-joined (lines y) (each y k))

@@ -5,7 +5,7 @@ use Rattle.std.specs.Str.Parse.{AllDigits, IsNumeral, ParsesUnsigned, digits_val
 use Rattle.std.proofs.lemmas.List.{append_cancel_left}
 use Rattle.std.proofs.lemmas.Bool.{cases_lt, and_parts, or_cases}
 use Rattle.std.proofs.lemmas.Bool.Decides.{nat_tests}
-use Rattle.std.proofs.lemmas.Fmt.{decimal_digit, decimal_is_IsNumeral, decimal-digits_value, first_decimal}
+use Rattle.std.proofs.lemmas.Fmt.{decimal_digit, decimal_is_IsNumeral, decimal-digits_value, decimal_injective, first_decimal}
 use Rattle.std.proofs.lemmas.Str.Parse.{IsNumeralModel, numerals_by_value, digit_at}
 use Rattle.part_meta.specs.Numbers.{begins_plainly}
 
@@ -60,3 +60,6 @@ pub behind_label : (r : Option ℕ) (text label digits : List ℕ) → text ≡ 
     → MatchOption r ((n : ℕ) → n < 2 ^ 32 → text ≢ label ++ decimal n) (λ n. text ≡ label ++ decimal n)
 behind_label None text label digits cut none = λ n small is. none n small (append_cancel_left label digits (decimal n) (sym cut ∙ is))
 behind_label (Some n) text label digits cut is = cut ∙ ap (λ t. label ++ t) is
+
+pub label_told : (text label : List ℕ) (m n : ℕ) → m < 2 ^ 64 → n < 2 ^ 64 → text ≡ label ++ decimal m → text ≡ label ++ decimal n → m ≡ n
+label_told text label m n a b e f = decimal_injective m n a b (append_cancel_left label (decimal m) (decimal n) (sym e ∙ f))

@@ -1,6 +1,7 @@
 //! Catalogs from their text, line by line.
 
-ghost use Rattle.std.specs.Prelude.{◌≡◌, ◌≢◌, ◌↔◌, List, ℕ, MatchOption, IfOk, IfErr, IsTrue};
+ghost use Rattle.std.specs.Prelude.{◌≡◌, ◌≢◌, ◌<◌, ◌↔◌, List, ℕ, MatchOption, IfOk, IfErr, IsTrue};
+ghost use Rattle.std.specs.List.{All, AllPairs};
 ghost use Rattle.fb_types.specs.declared.schemas.Column.{Column};
 ghost use Rattle.fb_types.specs.Schemas.{IsSchema};
 ghost use Rattle.fb_types.specs.SchemaText.{schema_text};
@@ -168,9 +169,16 @@ fn takes(catalog: &Catalog, part: u32) -> bool
     ensures { IsTrue result ↔ IsCatalog (with_part catalog.now part) }
 {
     let parts = catalog.parts.as_slice();
-    let rises = match parts.last() {
+    parts.len() < 1024 && part < catalog.next && is_above(parts, part)
+}
+
+/// Whether the number is above those of a rising list.
+fn is_above(parts: &[u32], part: u32) -> bool
+    requires { AllPairs (λ a b. a < b) parts.now }
+    ensures { IsTrue result ↔ All (λ earlier. earlier < part) parts.now }
+{
+    match parts.last() {
         Some(last) => *last < part,
         None => true,
-    };
-    rises && part < catalog.next && parts.len() < 1024
+    }
 }

@@ -1,6 +1,6 @@
 -- Texts of lines, and the first line that no text of a grammar has there.
-use Rattle.std.specs.Prelude.{◌≡◌, ◌≢◌, ℕ, ◌+◌, ◌-◌, ◌≤◌, ◌<◌, ◌==◌, List, [], ◌∷◌, ◌++◌, length, take, if◌then◌else◌}
-use Rattle.std.specs.List.{flat_map}
+use Rattle.std.specs.Prelude.{◌≡◌, ◌≢◌, ℕ, ◌+◌, ◌-◌, ◌≤◌, ◌<◌, ◌==◌, Option, Some, None, Result, Ok, Err, List, [], ◌∷◌, ◌++◌, length, take, if◌then◌else◌}
+use Rattle.std.specs.List.{All, flat_map}
 
 -- ended by a line feed (10)
 abbrev pub line : List ℕ → List ℕ
@@ -19,6 +19,10 @@ abbrev pub lines_in : List ℕ → List (List ℕ)
 lines_in [] = []
 lines_in (b ∷ bs) = if b == 10 then (10 ∷ []) ∷ lines_in bs else begun_by b (lines_in bs)
 
+-- without a line feed
+abbrev pub IsUnbroken : List ℕ → Type 0
+IsUnbroken bytes = All (λ b. b ≢ 10) bytes
+
 -- A grammar is a set of values and the lines that spell each. Some text of it begins with these lines.
 pub record Begins {A : Type 0} (IsOf : A → Type 0) (lines : A → List (List ℕ)) (front : List (List ℕ)) : Type 0 where
   pub value : A
@@ -33,3 +37,14 @@ pub record IsFirstWrong {A : Type 0} (IsOf : A → Type 0) (lines : A → List (
   pub before : Begins IsOf lines (take (k - 1) (lines_in bytes))
   pub wrong : k ≤ length (lines_in bytes) → Begins IsOf lines (take k (lines_in bytes)) → ⊥
   pub ended : length (lines_in bytes) < k → (x : A) → IsOf x → lines x ≢ lines_in bytes
+
+-- What a reader is after one more line, where what it read before are the lines that `read` gives of it: the state with
+-- that line, or nothing, where no text of the grammar goes on so.
+abbrev pub GoesOn : {A S : Type 0} → (A → Type 0) → (A → List (List ℕ)) → (S → Type 0) → (S → List (List ℕ)) → S → List ℕ → Option S → Type 0
+GoesOn IsOf lines IsState read state text (Some after) = IsState after × (read after ≡ read state ++ line text ∷ [])
+GoesOn IsOf lines IsState read state text None = Begins IsOf lines (read state ++ line text ∷ []) → ⊥
+
+-- What a reader has at the end of a text of whole lines: the value that they spell, or nothing, where they spell none.
+abbrev pub Ends : {A S : Type 0} → (A → Type 0) → (A → List (List ℕ)) → (S → List (List ℕ)) → S → Option A → Type 0
+Ends IsOf lines read state (Some x) = IsOf x × (read state ≡ lines x)
+Ends {A} IsOf lines read state None = (x : A) → IsOf x → lines x ≢ read state

@@ -4,6 +4,7 @@
 mod catalog;
 mod catalog_reading;
 mod fault;
+mod lines;
 mod names;
 mod part;
 mod part_reading;

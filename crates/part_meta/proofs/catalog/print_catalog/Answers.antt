@@ -2,13 +2,13 @@ use Rattle.std.proofs.Common.{◌≡◌, ◌++◌, decimal, refl}
 use Rattle.std.specs.List.{flat_map}
 use lib.Chars.{codes}
 use Rattle.fb_types.specs.SchemaText.{schema_text}
-use Rattle.part_meta.specs.CatalogText.{catalog_lines, catalog_text, part_line}
+use Rattle.part_meta.specs.CatalogText.{catalog_text, next_line, part_line, schema_line, title_line}
 use Rattle.part_meta.specs.Lines.{line}
 use Rattle.part_meta.proofs.LineLemmas.{catalog-joined, joined-map}
 use Rattle.part_meta.proofs.catalog.print_catalog.Goals as goal
 
 pub returns : goal.returns
-unfolding catalog_text catalog_lines
+unfolding catalog_text title_line schema_line next_line
 returns c =
     let schema : c.bytes.result.now ≡ schema_text c.args.catalog.now.schema =
     cc (c.bytes.ensures, c.in_ok-schema.ensures.text) in

@@ -1,5 +1,5 @@
 -- What a question comes to over files, whether or not they stand for a world.
-use Rattle.std.specs.Prelude.{◌≡◌, ◌≢◌, ⊤, ⊥, ℕ, ℤ, Bool, true, false, ◌==◌, ◌%◌, ◌/◌, ◌&&◌, nat_le, List, [], ◌∷◌, length, Option, Some, None, IfSome, Result, Ok, Err, if◌then◌else◌}
+use Rattle.std.specs.Prelude.{◌≡◌, ◌≢◌, ⊤, ℕ, ℤ, Bool, true, false, ◌==◌, ◌%◌, ◌/◌, ◌&&◌, nat_le, List, [], ◌∷◌, length, Option, Some, None, IfSome, Result, Ok, Err, if◌then◌else◌}
 use Rattle.std.specs.List.{filter}
 use Rattle.fb_outside.specs.Files.{Files, file_at}
 use Rattle.fb_types.specs.declared.cells.Cell.TheVariants.{Whole}

@@ -121,14 +121,39 @@ pub fn read_rows<S: Store>(
     ensures reads { AddsRead (S.files store.old) (S.reads store.old) (S.reads store.new)
         (record { name = column.now.name; offset = first * width_in column.now.ty; room = length out.old * width_in column.now.ty }) }
 {
-    let width = number_width(column.ty);
-    let want = out.len() * width;
-    let at = u64::from(first) * width as u64;
+    let want = out.len() * number_width(column.ty);
     let mut buffer = [0; BUFFER];
-    let bytes = &mut buffer[..want];
-    match store.read_at(column.name.as_str(), at, bytes) {
+    read_by(store, column, first, out, &mut buffer[..want])
+}
+
+/// The same, through a buffer of the bytes that the rows have.
+fn read_by<S: Store>(
+    store: &mut S,
+    column: &ColumnRef,
+    first: u32,
+    out: &mut [i128],
+    buffer: &mut [u8],
+) -> Result<(), ColFault>
+    requires width { IsSome (width_of column.now.ty) }
+    requires rows { first + length out.old ≤ column.now.rows }
+    requires buffer { length buffer.old ≡ length out.old * width_in column.now.ty }
+    ensures cause { HasCause (S.faults store.old) (S.faults store.new) (IsErrOf result ColFault.Store) }
+    ensures stop { IfErr result (StopsReading (length out.old * width_in column.now.ty)) }
+    ensures exact { IfSome (S.files store.old) (λ m. ReadsRows result out.new (rows_in column.now.ty (length out.old)
+        (bytes_at m column.now.name (first * width_in column.now.ty) (length out.old * width_in column.now.ty)))) }
+    ensures whole { (bytes : List ℕ) → told_at (S.files store.old) column.now.name ≡ Some bytes → length bytes ≡ column.now.rows * width_in column.now.ty
+        → OnErr result (IsErrOf result ColFault.Store) }
+    ensures rows { (values : List ℤ) → told_at (S.files store.old) column.now.name ≡ Some (values_bytes column.now.ty values)
+        → All (λ value. ValueFits value column.now.ty) values → OnOk result (out.new ≡ take (length out.old) (drop first values)) }
+    ensures files { SameFiles (S.files store.old) (S.files store.new) }
+    ensures reads { AddsRead (S.files store.old) (S.reads store.old) (S.reads store.new)
+        (record { name = column.now.name; offset = first * width_in column.now.ty; room = length out.old * width_in column.now.ty }) }
+{
+    let want = buffer.len();
+    let at = u64::from(first) * number_width(column.ty) as u64;
+    match store.read_at(column.name.as_str(), at, buffer) {
         Ok(have) if have == want => {
-            numbers_of_bytes(column.ty, bytes, out);
+            numbers_of_bytes(column.ty, buffer, out);
             Ok(())
         }
         Ok(have) => Err(ColFault::WrongLength {

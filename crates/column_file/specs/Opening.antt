@@ -1,5 +1,5 @@
 -- What opening a column gives over files that are told: the bits of its mask, or the first fault.
-use Rattle.std.specs.Prelude.{◌≡◌, ◌==◌, ◌*◌, ℕ, List, Bool, length, Option, None, Some, Result, Ok, Err, nat_lt, if◌then◌else◌}
+use Rattle.std.specs.Prelude.{◌≡◌, ◌≢◌, ◌==◌, ◌*◌, ℕ, List, Bool, length, Option, None, Some, Result, Ok, Err, nat_lt, if◌then◌else◌}
 use Rattle.wah_words.specs.Bytes.{vector_at}
 use Rattle.wah_words.specs.declared.fault.WordsFault.{WordsFault}
 use Rattle.wah_words.specs.declared.fault.WordsFault.TheVariants as words
@@ -45,3 +45,17 @@ StopsWriting fault = ⊥
 abbrev pub opened_mask : Result ColumnRef ColFault → Result (List Bool) ColFault
 opened_mask (Ok column) = Ok column.mask
 opened_mask (Err fault) = Err fault
+
+-- what opening a mask of so many rows may answer
+abbrev pub StopsMask : ℕ → ColFault → Type 0
+StopsMask rows Missing = ⊥
+StopsMask rows (WrongLength want have) = ⊥
+StopsMask rows (Mask words.OutOfMemory) = ⊥
+StopsMask rows (MaskLength want have) = (want ≡ rows) × (have ≢ rows)
+StopsMask rows fault = Unit {0}
+
+-- what opening a column of so many rows, of so many bytes each, may answer
+abbrev pub StopsOpening : ℕ → ℕ → ColFault → Type 0
+StopsOpening width rows Missing = Unit {0}
+StopsOpening width rows (WrongLength want have) = (want ≡ rows * width) × (have ≢ want)
+StopsOpening width rows fault = StopsMask rows fault

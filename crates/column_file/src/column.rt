@@ -3,10 +3,10 @@
 ghost use Rattle.std.specs.Prelude.{◌≡◌, ◌+◌, ◌*◌, ◌<◌, ◌≤◌, ◌≤ℤ◌, ℕ, ℤ, Bool, List, All, Ok, Some, IfErr, IfOk, IfSome, IsErrOf, IsSome, OnErr, OnOk, drop, length, take};
 ghost use Rattle.fb_outside.specs.Causes.{HasCause};
 ghost use Rattle.fb_outside.specs.Files.{SameFiles, bytes_at, file_at, told_at};
-ghost use Rattle.fb_outside.specs.Reads.{AddsOnly, AddsRead, IsWholeLook};
+ghost use Rattle.fb_outside.specs.Reads.{AddsOnly, AddsRead, IsWholeLook, whole_look};
 ghost use Rattle.fb_types.specs.Types.{width_of};
 ghost use Rattle.wah_words.specs.Bytes.{spelling};
-ghost use Rattle.column_file.specs.Opening.{Opens, column_in, mask_in, opened_mask};
+ghost use Rattle.column_file.specs.Opening.{Opens, StopsMask, StopsOpening, column_in, mask_in, opened_mask};
 ghost use Rattle.column_file.specs.Rows.{ReadsRows, StopsReading, rows_in};
 ghost use Rattle.column_file.specs.Values.{ValueFits, values_bytes, width_in};
 
@@ -49,11 +49,13 @@ pub fn open_column<S: Store>(
     requires width { IsSome (width_of ty) }
     ensures cause { HasCause (S.faults store.old) (S.faults store.new) (IsErrOf result ColFault.Store) }
     ensures opened { IfOk result (λ column. (column.name ≡ name.now) × (column.ty ≡ ty) × (column.rows ≡ rows) × (length column.mask ≡ rows)) }
+    ensures stop { IfErr result (StopsOpening (width_in ty) rows) }
 
     // The two files are those of such a column, or have a first fault.
     ensures exact { IfSome (S.files store.old) (λ m. Opens (opened_mask result) (column_in (width_in ty) rows (file_at m name.now) (file_at m mask_name.now))) }
     ensures files { SameFiles (S.files store.old) (S.files store.new) }
     ensures reads { AddsOnly (IsWholeLook (S.files store.old) mask_name.now) (S.reads store.old) (S.reads store.new) }
+    ensures once { OnOk result (IfSome (S.files store.old) (λ m. AddsRead (Some m) (S.reads store.old) (S.reads store.new) (whole_look m mask_name.now))) }
 {
     let want = u64::from(rows) * number_width(ty) as u64;
     match store.len(name.as_str()) {
@@ -75,9 +77,11 @@ fn with_mask<S: Store>(
 ) -> Result<ColumnRef, ColFault>
     ensures cause { HasCause (S.faults store.old) (S.faults store.new) (IsErrOf result ColFault.Store) }
     ensures opened { IfOk result (λ column. (column.name ≡ name.now) × (column.ty ≡ ty) × (column.rows ≡ rows) × (length column.mask ≡ rows)) }
+    ensures stop { IfErr result (StopsMask rows) }
     ensures exact { IfSome (S.files store.old) (λ m. Opens (opened_mask result) (mask_in rows (file_at m mask_name.now))) }
     ensures files { SameFiles (S.files store.old) (S.files store.new) }
     ensures reads { AddsOnly (IsWholeLook (S.files store.old) mask_name.now) (S.reads store.old) (S.reads store.new) }
+    ensures once { OnOk result (IfSome (S.files store.old) (λ m. AddsRead (Some m) (S.reads store.old) (S.reads store.new) (whole_look m mask_name.now))) }
 {
     let mask = match open_mask(alloc, store, mask_name, rows) {
         Ok(mask) => mask,

@@ -3,10 +3,10 @@
 ghost use Rattle.std.specs.Prelude.{◌≡◌, ◌==◌, ◌+◌, ◌≤◌, if◌then◌else◌, Bool, List, Ok, Some, IfErr, IfOk, IfSome, IsErrOf, OnOk, length};
 ghost use Rattle.fb_outside.specs.Causes.{HasCause};
 ghost use Rattle.fb_outside.specs.Files.{PutLeaves, Puts, SameFiles, file_at, told_at};
-ghost use Rattle.fb_outside.specs.Reads.{AddsOnly, IsWholeLook};
+ghost use Rattle.fb_outside.specs.Reads.{AddsOnly, AddsRead, IsWholeLook, whole_look};
 ghost use Rattle.wah_words.specs.Bytes.{spelling, vector_at};
 ghost use Rattle.wah_words.specs.Spelling.{words_of};
-ghost use Rattle.column_file.specs.Opening.{Opens, StopsWriting, mask_in, to_its_end};
+ghost use Rattle.column_file.specs.Opening.{Opens, StopsMask, StopsWriting, mask_in, to_its_end};
 
 use crate::fault::ColFault;
 use crate::values::put_bytes;
@@ -48,6 +48,7 @@ pub fn open_mask<S: Store>(
 ) -> Result<Wah, ColFault>
     ensures cause { HasCause (S.faults store.old) (S.faults store.new) (IsErrOf result ColFault.Store) }
     ensures rows { IfOk result (λ mask. length mask ≡ rows) }
+    ensures stop { IfErr result (StopsMask rows) }
 
     // The file is one vector of so many bits, to its end, or has a first fault.
     ensures exact { IfSome (S.files store.old) (λ m. Opens result (mask_in rows (file_at m name.now))) }
@@ -58,6 +59,7 @@ pub fn open_mask<S: Store>(
         → Opens result (Ok bits) }
     ensures files { SameFiles (S.files store.old) (S.files store.new) }
     ensures reads { AddsOnly (IsWholeLook (S.files store.old) name.now) (S.reads store.old) (S.reads store.new) }
+    ensures once { OnOk result (IfSome (S.files store.old) (λ m. AddsRead (Some m) (S.reads store.old) (S.reads store.new) (whole_look m name.now))) }
 {
     match file_bytes(alloc, store, name) {
         Ok(Some(bytes)) => mask_of(alloc, &bytes, rows),
@@ -71,6 +73,8 @@ pub fn open_mask<S: Store>(
 fn mask_of(alloc: Global, bytes: &[u8], rows: u32) -> Result<Wah, ColFault>
     ensures exact { Opens result (to_its_end rows (length bytes.now) (vector_at bytes.now)) }
     ensures found { IfOk result (λ mask. bytes.now ≡ spelling mask) }
+    ensures rows { IfOk result (λ mask. length mask ≡ rows) }
+    ensures stop { IfErr result (StopsMask rows) }
     ensures unfailed { IsErrOf result ColFault.Store → ⊥ }
 {
     match Wah::from_bytes(alloc, bytes) {

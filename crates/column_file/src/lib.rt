@@ -5,6 +5,8 @@ mod column;
 mod fault;
 mod masks;
 mod numbers;
+#[cfg(test)]
+mod tests;
 mod values;
 
 pub use column::{ColumnRef, MAX_ROWS_READ, open_column, read_rows};

@@ -1,1 +1,4 @@
+pub mod NumberLemmas
 pub mod ValuesLemmas
+pub mod OpeningLemmas
+pub mod RowsLemmas

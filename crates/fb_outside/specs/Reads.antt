@@ -28,8 +28,12 @@ IsNoteOf (Some files) look added = added ≡ (if is_some (file_at files look.nam
 abbrev pub AddsRead : Option Files → Option (List Look) → Option (List Look) → Look → Type 0
 AddsRead files old new look = AddsReads old new (IsNoteOf files look)
 
--- a look at a whole file from its beginning on, with as much room as the file has bytes where that is told
+-- the look at a whole file, with as much room as the file has bytes
+abbrev pub whole_look : Files → List ℕ → Look
+whole_look files name = record { name = name; offset = 0; room = length (unwrap_or (file_at files name) []) }
+
+-- a look at this file from its beginning on, at the whole of it where that is told
 pub record IsWholeLook (files : Option Files) (name : List ℕ) (look : Look) : Type 0 where
   pub of_it : look.name ≡ name
   pub from_start : look.offset ≡ 0
-  pub whole : IfSome files (λ m. look.room ≡ length (unwrap_or (file_at m name) []))
+  pub whole : IfSome files (λ m. look ≡ whole_look m name)

@@ -1,7 +1,7 @@
 ghost use Rattle.std.specs.Prelude.{◌≡◌, ◌≤◌, length, IfOk, IfSome, OnOk, IsErrOf, option_map};
 ghost use Rattle.fb_outside.specs.Causes.{HasCause};
 ghost use Rattle.fb_outside.specs.Files.{bytes_at, file_at, SameFiles};
-ghost use Rattle.fb_outside.specs.Reads.{AddsOnly, AddsRead, IsWholeLook};
+ghost use Rattle.fb_outside.specs.Reads.{AddsOnly, AddsRead, IsWholeLook, whole_look};
 
 use crate::file_name::FileName;
 use crate::outside::{Store, Trouble};
@@ -48,6 +48,7 @@ pub fn file_bytes<S: Store>(
     ensures given { IfOk result (λ bytes. IfSome (S.files store.old) (λ m. option_map (λ v. v.items) bytes ≡ file_at m name.now)) }
     ensures files { SameFiles (S.files store.old) (S.files store.new) }
     ensures reads { AddsOnly (IsWholeLook (S.files store.old) name.now) (S.reads store.old) (S.reads store.new) }
+    ensures once { OnOk result (IfSome (S.files store.old) (λ m. AddsRead (Some m) (S.reads store.old) (S.reads store.new) (whole_look m name.now))) }
 {
     match store.len(name.as_str()) {
         Ok(None) => Ok(None),

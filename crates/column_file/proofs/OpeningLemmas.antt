@@ -1,0 +1,29 @@
+-- Opening files that are as they have to be.
+use Rattle.std.proofs.Common.{◌≡◌, ◌≤◌, ◌++◌, ◌==◌, ℕ, Bool, List, [], length, Option, Some, None, Result, Ok, Err, IfSome, nat_lt, refl, sym, ap, subst, ◌∙◌, append-nil, arith, if◌then◌else◌}
+use Rattle.std.proofs.lemmas.Bool.{eq-eqb, le-ltb}
+use Rattle.fb_outside.specs.Files.{Files, file_at, told_at}
+use Rattle.wah_words.specs.Bytes.{spelling, vector_at}
+use Rattle.wah_words.proofs.BytesLemmas.{vector_again}
+use Rattle.column_file.specs.Opening.{Opens, to_its_end, mask_in}
+use Rattle.column_file.specs.declared.fault.ColFault.{ColFault}
+use Rattle.column_file.specs.declared.fault.ColFault.TheVariants.{MaskTrailing, MaskLength}
+
+-- a mask of so many rows is the mask that its bytes are
+pub spelled_to_end : (rows : ℕ) (bits : List Bool) → length bits ≡ rows → length bits ≤ 4194304
+    → to_its_end rows (length (spelling bits)) (vector_at (spelling bits)) ≡ Ok bits
+spelled_to_end rows bits is limit =
+    let at : vector_at (spelling bits) ≡ Ok (bits, length (spelling bits)) = ap vector_at (sym (append-nil (spelling bits))) ∙ vector_again bits [] limit in
+    ap (to_its_end rows (length (spelling bits))) at
+    ∙ ap (λ b. if b then Err MaskTrailing else if length bits == rows then Ok bits else Err (MaskLength rows (length bits))) (le-ltb (length (spelling bits)) (length (spelling bits)) (omega arith))
+    ∙ ap (λ b. if b then Ok bits else Err (MaskLength rows (length bits))) (eq-eqb (length bits) rows is)
+
+-- the bytes of a file that are told are those that were read
+pub told_bytes : (files : Option Files) (name bytes other : List ℕ) → IfSome files (λ m. Some bytes ≡ file_at m name) → told_at files name ≡ Some other → bytes ≡ other
+told_bytes None name bytes other given told = absurd (cc)
+told_bytes (Some m) name bytes other given told = let both : Some bytes ≡ Some other = given ∙ told in cc
+
+-- what is spelled as a mask of so many rows is opened as that mask
+pub opens_spelled : (rows : ℕ) (bits : List Bool) (bytes : List ℕ) (opened : Result (List Bool) ColFault) → length bits ≡ rows → length bits ≤ 4194304 → bytes ≡ spelling bits
+    → Opens opened (to_its_end rows (length bytes) (vector_at bytes)) → Opens opened (Ok bits)
+opens_spelled rows bits bytes opened is limit spelled h =
+    subst (Opens opened) (ap (λ b. to_its_end rows (length b) (vector_at b)) spelled ∙ spelled_to_end rows bits is limit) h

@@ -1,5 +1,5 @@
 -- The catalogs that a load writes, by their test; and what a path's file that is none of them gives.
-use Rattle.std.proofs.Common.{◌≡◌, ◌≢◌, ◌⊎◌, ◌<◌, ◌≤◌, ◌{◌≡◌, ◌≢◌, ◌⊎◌, ◌<◌, ◌&&◌&◌, ◌==◌, ℕ, suc, zero, Bool, true, false, List, [], ◌∷◌, length, map, option_map, Option, Some, None, IfSome, refl, sym, ap, subst, inl, inr, ◌∙◌, arith}
+use Rattle.std.proofs.Common.{◌≡◌, ◌≢◌, ◌⊎◌, ◌<◌, ◌≤◌, ◌&&◌, ◌==◌, ℕ, suc, zero, Bool, true, false, List, [], ◌∷◌, length, map, option_map, Option, Some, None, IfSome, refl, sym, ap, subst, inl, inr, ◌∙◌, arith}
 use Rattle.std.specs.List.{All, AllPairs}
 use Rattle.std.proofs.lemmas.List.Elements.{All-head, All-nil, All-cons}
 use Rattle.std.proofs.lemmas.List.Kept.{AllPairs-cons}

@@ -8,6 +8,7 @@ use Rattle.where_grammar.specs.declared.clause.Atom.TheVariants.{Compare}
 use Rattle.where_grammar.specs.declared.clause.Clause.{Clause}
 use Rattle.where_grammar.specs.declared.clause.Clause.TheVariants.{One}
 use Rattle.where_grammar.specs.declared.clause.QueryKind.{QueryKind}
+use Rattle.where_grammar.specs.Holds.{compares}
 use Rattle.part_meta.specs.declared.catalog.Catalog.{Catalog}
 use Rattle.statuses.specs.declared.Status.{Status}
 use Rattle.statuses.specs.declared.Status.TheVariants.{BadQuery}
@@ -19,6 +20,9 @@ use Rattle.ibis.specs.Found.{Gives, Unopened, count_in, is_of_files, passing_in}
 
 abbrev pub clause_of_comparison : Comparison → Clause
 clause_of_comparison c = One (Compare c.name c.op c.limit)
+
+abbrev pub meets : Comparison → ℤ → Bool
+meets c number = compares c.op number c.limit
 
 -- the text is refused, whatever the files
 abbrev pub StopsAtText : List ℕ → Stop → Type 0

@@ -15,11 +15,7 @@ use statuses::{DamageKind, Status, Stop};
 use std::alloc::Global;
 
 /// The catalog of the dataset at the path, as a load writes it.
-pub(crate) fn open<S: Store>(
-    alloc: Global,
-    store: &mut S,
-    dir: &FileName,
-) -> Result<Catalog, Stop>
+pub(crate) fn open<S: Store>(alloc: Global, store: &mut S, dir: &FileName) -> Result<Catalog, Stop>
     requires path { IsPath dir.now }
     ensures cause { HasCause (S.faults store.old) (S.faults store.new) (IsErrOf result Stop.StoreFault) }
     ensures files { SameFiles (S.files store.old) (S.files store.new) }

@@ -2,7 +2,7 @@
 
 ghost use Rattle.std.specs.Prelude.{◌≡◌, Ok, IfOk, IfErr};
 ghost use Rattle.ibis.specs.Query.{read_query};
-ghost use Rattle.ibis.specs.Steps.{StopsAtText, clause_of_comparison};
+ghost use Rattle.ibis.specs.Steps.{StopsAtText, clause_of_comparison, meets};
 
 use fb_types::ColName;
 use statuses::{Status, Stop};
@@ -15,6 +15,22 @@ pub(crate) struct Comparison {
     pub(crate) name: ColName,
     pub(crate) op: Op,
     pub(crate) limit: i128,
+}
+
+impl Comparison {
+    /// Whether a number stands so to the limit.
+    pub(crate) fn meets(&self, number: i128) -> bool
+        ensures { result ≡ meets self.now number }
+    {
+        match self.op {
+            Op::Less => number < self.limit,
+            Op::LessEq => number <= self.limit,
+            Op::Greater => number > self.limit,
+            Op::GreaterEq => number >= self.limit,
+            Op::Equal => number == self.limit,
+            Op::Differs => number != self.limit,
+        }
+    }
 }
 
 /// The comparison that the query's text spells.

@@ -1,3 +1,4 @@
 pub mod OpenLemmas
 pub mod CountLemmas
 pub mod ScanLemmas
+pub mod WorldLemmas

@@ -4,13 +4,12 @@ use Rattle.std.specs.List.{find, flat_map}
 use Rattle.std.specs.Option.{is_none}
 use Rattle.fb_types.specs.declared.schemas.Column.{Column}
 use Rattle.fb_types.specs.Schemas.{place_of}
-use Rattle.where_grammar.specs.declared.clause.Atom.{Atom}
-use Rattle.where_grammar.specs.declared.clause.Atom.TheVariants as atom
 use Rattle.where_grammar.specs.declared.clause.Clause.{Clause}
 use Rattle.where_grammar.specs.declared.clause.Clause.TheOpen.{Clause-F}
 use Rattle.where_grammar.specs.declared.clause.Clause.TheFolds.{fold-Clause}
 use Rattle.where_grammar.specs.declared.clause.QueryKind.{QueryKind}
 use Rattle.where_grammar.specs.declared.clause.QueryKind.TheVariants.{Syntax, Unknown}
+use Rattle.where_grammar.specs.Holds.{name_in}
 use Rattle.where_grammar.specs.Language.{after_where, read_where}
 use Rattle.statuses.specs.declared.Status.{Status}
 use Rattle.statuses.specs.declared.Status.TheVariants.{BadQuery}
@@ -30,23 +29,12 @@ clause_or_refusal (Err kind) = Err (BadQuery kind)
 
 -- ---- the columns that a clause names, from left to right
 
-abbrev pub atom_name : Atom → List ℕ
-atom_name (atom.Compare name by value) = name
-atom_name (atom.Double name left low right high) = name
-atom_name (atom.Between name low high) = name
-atom_name (atom.Numbers name list) = name
-atom_name (atom.Same name text) = name
-atom_name (atom.Other name text) = name
-atom_name (atom.Texts name list) = name
-atom_name (atom.Like name pattern) = name
-atom_name (atom.Exists name) = name
-
 abbrev pub names_by_parts : Clause-F (List (List ℕ)) → List (List ℕ)
 names_by_parts (Clause-F.Or parts) = flat_map (λ part. part) parts
 names_by_parts (Clause-F.Xor parts) = flat_map (λ part. part) parts
 names_by_parts (Clause-F.And parts) = flat_map (λ part. part) parts
 names_by_parts (Clause-F.Not part) = part
-names_by_parts (Clause-F.One condition) = atom_name condition ∷ []
+names_by_parts (Clause-F.One condition) = name_in condition ∷ []
 
 abbrev pub names_in : Clause → List (List ℕ)
 names_in clause = fold-Clause (List (List ℕ)) names_by_parts clause

@@ -1,5 +1,5 @@
 -- What was counted so far are the numbers up to the place, where the files are told.
-use Rattle.std.proofs.Common.{◌≤◌, ◌+◌, ◌-◌}
+use Rattle.std.proofs.Common.{◌≡◌, ◌≤◌, ◌+◌, ◌-◌, length}
 use Rattle.fb_outside.specs.Files.{SameFiles}
 use Rattle.ibis.specs.Steps.{meets}
 use Rattle.ibis.proofs.ScanLemmas.{ToldUpTo}
@@ -9,6 +9,7 @@ abbrev pub invariant-loop-at : goal.invariant-loop-at
 invariant-loop-at g l = record {
   later : g.S.Store.faults l.fn.store ≤ g.S.Store.faults l.store;
   kept : SameFiles (g.S.Store.files l.fn.store) (g.S.Store.files l.store);
+  room : length l.block ≡ 16384;
   few : l.hits ≤ l.at;
   near : l.at ≤ l.len + 16384;
   told : ToldUpTo (g.S.Store.files l.fn.store) l.file l.len (meets l.comparison) l.at l.hits;

@@ -71,6 +71,7 @@ fn write_values<S: Store>(
         Ok(()) => Ok(()),
         Err(ColFault::Store) => Err(Stop::StoreFault),
         Err(ColFault::OutOfMemory) => Err(Stop::OutOfMemory),
+        Err(_) => unreachable!(),
     }
 }
 

@@ -3,6 +3,7 @@
 
 mod column;
 mod fault;
+mod laws;
 mod masks;
 mod numbers;
 #[cfg(test)]
@@ -11,5 +12,6 @@ mod values;
 
 pub use column::{ColumnRef, MAX_ROWS_READ, open_column, read_rows};
 pub use fault::ColFault;
+pub use laws::{one_spelling, rows_of_one_width};
 pub use masks::{open_mask, write_mask};
 pub use values::{numbers_of_bytes, write_column};

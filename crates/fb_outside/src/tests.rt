@@ -1,6 +1,6 @@
 use crate::{
     FailAt, Failed, FileName, FolderStore, MemSink, MemSource, MemStore, ReadNote, Sink, Source,
-    StdSink, StdSource, Store, Trouble, read_whole,
+    StdSink, StdSource, Store, Trouble, file_bytes, read_whole,
 };
 use std::fs;
 use std::io::{self, ErrorKind, Read, Write};
@@ -223,7 +223,10 @@ fn reads_whole_files(rt: HostRuntime) -> Result<(), Fail> {
     check_whole(&rt, &mut store, &b, 4, Ok(b""));
     check_whole(&rt, &mut store, &a, 4, Err(Trouble::Failed));
     check_whole(&rt, &mut store, &a, 4, Ok(b"abcd"));
-    let notes = [6, 9, 4, 4].map(|length| ReadNote {
+    let bytes = file_bytes(rt.alloc(), &mut store, &a).map_err(|_| "not read")?;
+    assert!(rt; has(bytes.as_deref(), b"abcdef"));
+    assert!(rt; matches!(file_bytes(rt.alloc(), &mut store, &b), Ok(None)));
+    let notes = [6, 9, 4, 4, 6].map(|length| ReadNote {
         file: 0,
         at: 0,
         length,

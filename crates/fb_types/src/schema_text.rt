@@ -25,7 +25,7 @@ pub enum SchemaKind {
     Repeated,
 }
 
-/// Why a schema text is refused; columns count from 1.
+/// Why a schema text is refused. Columns count from 1; `Empty` is told at column 0.
 #[derive(Debug, Drop, Error)]
 pub enum MetaFault {
     #[error("schema at column {column}: {kind:?}")]
@@ -134,8 +134,8 @@ fn add(columns: &mut Vec<Column>, column: Column) -> Result<(), AllocError>
     Ok(())
 }
 
-#[tactic(auto, using(crate::proofs::EachFacts::taken_of))]
 /// The column of an item that stands after those of the earlier columns, or what is wrong with it.
+#[tactic(auto, using(crate::proofs::EachFacts::taken_of))]
 fn column_after(
     alloc: Global,
     earlier: &[Column],

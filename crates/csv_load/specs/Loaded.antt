@@ -1,5 +1,5 @@
 -- The records that a load keeps of a CSV text, or its first fault.
-use Rattle.std.specs.Prelude.{◌==◌, ◌+◌, ℕ, List, [], ◌∷◌, ◌++◌, Result, Ok, Err, drop, if◌then◌else◌, is_some, length, map, min, nat_le}
+use Rattle.std.specs.Prelude.{◌==◌, ◌+◌, ℕ, List, [], ◌∷◌, Result, Ok, Err, drop, if◌then◌else◌, is_some, length, map, min, nat_le}
 use Rattle.csv.specs.Reading.{default_config, records, strip_bom}
 unfoldable pub use Rattle.fb_types.specs.AllOrFirst.{all_or_first}
 pub use Rattle.fb_types.specs.AllOrFirst.{behind}

@@ -10,8 +10,9 @@ use Rattle.fb_types.specs.declared.schema_text.SchemaKind.{SchemaKind}
 use Rattle.fb_types.specs.declared.schema_text.SchemaKind.TheVariants.{Repeated}
 use Rattle.fb_types.specs.declared.types.ColType.{ColType}
 use Rattle.fb_types.specs.Field.{trimmed}
-use Rattle.fb_types.specs.AllOrFirst.{all_or_first, behind}
+use Rattle.fb_types.specs.AllOrFirst.{all_or_first}
 use Rattle.fb_types.specs.SchemaText.{Writes, column_after, column_or_fault, columns_of, each_column, is_colon, name_in, schema_or_fault, type_in}
+use Rattle.fb_types.proofs.AllOrFirstFacts.{all-found, stops-found}
 use Rattle.fb_types.proofs.ItemFacts.{Reads, item_read, item_written}
 use Rattle.fb_types.proofs.NameFacts.{column_name-named}
 use Rattle.fb_types.proofs.SchemaFacts.{AreFree}
@@ -112,42 +113,14 @@ written-so taken [] [] written free = tt
 written-so taken [] (column ∷ columns) written free = absurd written
 written-so taken (item ∷ items) [] written free = absurd written
 written-so taken (item ∷ items) (column ∷ columns) written free =
-    let reads = item_read item column written.0 free.0 in
+    let reads = item_read item column written.0 in
     (record { name_is = reads.name; ty_is = reads.ty; untaken = free.1 }, written-so (taken ++ column.name ∷ []) items columns written.1 free.2)
 
--- ---- all columns, or the first fault
-
-pub all_ok : {A E : Type 0} (n : ℕ) (values : List A) → all_or_first {A = A} {E = E} n (map Ok values) ≡ Ok values
-unfolding all_or_first
-all_ok n [] = refl
-all_ok {A} {E} n (value ∷ values) = ap (λ rest. behind (value ∷ []) rest) (all_ok {A = A} {E = E} (n + 1) values)
-
-pub ok_all : {A E : Type 0} (n : ℕ) (answers : List (Result A E)) (values : List A) → all_or_first n answers ≡ Ok values → answers ≡ map Ok values
-unfolding all_or_first
-ok_all n [] [] is = refl
-ok_all n [] (value ∷ values) is = cc
-ok_all n (Err why ∷ rest) values is = cc
-ok_all {A} {E} n (Ok value ∷ rest) values is = by (all_or_first (n + 1) rest) values refl is (λ vs found. ok_all (n + 1) rest vs found)
-  where
-    by : (found : Result (List A) (ℕ × E)) (all : List A) → all_or_first (n + 1) rest ≡ found → behind (value ∷ []) found ≡ Ok all → ((vs : List A) → all_or_first (n + 1) rest ≡ Ok vs → rest ≡ map Ok vs) → Ok value ∷ rest ≡ map Ok all
-    by (Err e) all same told later = cc
-    by (Ok vs) [] same told later = cc
-    by (Ok vs) (v ∷ more) same told later =
-        let others : rest ≡ map Ok vs = later vs same in
-        let whole : value ∷ vs ≡ v ∷ more = cc in
-        ap (λ r. Ok value ∷ r) others ∙ ap (map Ok) whole
-
-pub stops_at : {A E : Type 0} (n : ℕ) (values : List A) (why : E) (rest : List (Result A E)) → all_or_first n (map Ok values ++ Err why ∷ rest) ≡ Err (n + length values, why)
-unfolding all_or_first
-stops_at n [] why rest = ap (λ k. Err (k, why)) (omega arith)
-stops_at n (value ∷ values) why rest =
-    ap (λ r. behind (value ∷ []) r) (stops_at (n + 1) values why rest) ∙ ap (λ k. Err (k, why)) (omega arith)
+-- ---- a walk over the items
 
 pub schema_ok : (told : Result (List Column) (ℕ × SchemaKind)) (columns : List Column) → schema_or_fault told ≡ Ok columns → told ≡ Ok columns
 schema_ok (Ok found) columns is = cc
 schema_ok (Err (column, kind)) columns is = cc
-
--- ---- a walk over the items
 
 -- so many items, then one more
 each-split : (earlier xs ys : List (List ℕ)) → each_column earlier (xs ++ ys) ≡ each_column earlier xs ++ each_column (earlier ++ xs) ys
@@ -180,7 +153,7 @@ unfolding each_column
 fault_at items front rest item columns kind cut before here =
     let all : each_column [] items ≡ map Ok columns ++ Err kind ∷ each_column (front ++ item ∷ []) rest =
     rw (cut, each-split [] front (item ∷ rest), before, here) refl in
-    ap (λ answers. schema_or_fault (all_or_first 1 answers)) all ∙ ap schema_or_fault (stops_at 1 columns kind (each_column (front ++ item ∷ []) rest))
+    ap (λ answers. schema_or_fault (all_or_first 1 answers)) all ∙ ap schema_or_fault (stops-found 1 columns kind (each_column (front ++ item ∷ []) rest))
 
 pub walk_stops : (all : List (List ℕ)) (at : ℕ) (item : List ℕ) (columns : List Column) (kind : SchemaKind) → at < length all → item ≡ get_or all at item → length columns ≡ at → each_column [] (take at all) ≡ map Ok columns → column_or_fault (map (λ c. c.name) columns) (name_in item) (type_in item) ≡ Err kind → columns_of all ≡ Err (record { column = at + 1; kind = kind })
 walk_stops all at item columns kind within is count before here =
@@ -202,4 +175,4 @@ walk_from columns none = rw none refl
 pub walk_ends : (all : List (List ℕ)) (at : ℕ) (columns : List Column) → length all ≤ at → each_column [] (take at all) ≡ map Ok columns → columns_of all ≡ Ok columns
 walk_ends all at columns past read =
     let whole : each_column [] all ≡ map Ok columns = ap (each_column []) (sym (take_all at all past)) ∙ read in
-    ap (λ answers. schema_or_fault (all_or_first 1 answers)) whole ∙ ap schema_or_fault (all_ok 1 columns)
+    ap (λ answers. schema_or_fault (all_or_first 1 answers)) whole ∙ ap schema_or_fault (all-found 1 columns)

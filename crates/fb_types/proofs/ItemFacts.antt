@@ -16,10 +16,10 @@ use Rattle.fb_types.specs.declared.types.ColType.TheVariants.{Byte, UByte, Short
 use Rattle.fb_types.specs.declared.types.TheConstants.{TYPES}
 use Rattle.fb_types.specs.Field.{is_blank, trimmed}
 use Rattle.fb_types.specs.Names.{IsColumnName, column_name, continues_name, is_column_name}
-use Rattle.fb_types.specs.SchemaText.{IsPadded, Writes, column_text, is_colon, is_comma, name_in, type_in, type_named}
+use Rattle.fb_types.specs.SchemaText.{IsPadded, SpellsName, SpellsType, Writes, column_text, is_colon, is_comma, name_in, type_in, type_named}
 use Rattle.fb_types.specs.Types.{type_name}
 use Rattle.fb_types.proofs.BlankFacts.{both_pass, padded_trimmed, prefix_past, trimmed_is}
-use Rattle.fb_types.proofs.NameFacts.{both_left, both_right, kept_if, lower_same, name_continues, name_some}
+use Rattle.fb_types.proofs.NameFacts.{both_left, column_name-named, both_right, kept_if, lower_same, name_continues, name_some}
 
 -- ---- bytes of names and types
 
@@ -101,10 +101,10 @@ before_is left right none = take_at left (58 ∷ right) (position_or_len is_colo
 after_is : (left right : List ℕ) → list_all (λ b. not (is_colon b)) left ≡ true → after_first is_colon (left ++ 58 ∷ right) ≡ right
 after_is left right none = ap (λ n. drop (n + 1) (left ++ 58 ∷ right)) (colon_at left right none) ∙ drop-append-add left (58 ∷ right) 1
 
-name_word : (item : List ℕ) (column : Column) (w : Writes item column) → IsColumnName column.name → IsWord w.name
-name_word item column w named =
-    let lower : list_all continues_name (str_to_ascii_lowercase w.name) ≡ true = rw w.lower (name_continues column.name named) in
-    word_of_lower w.name lower
+name_word : (bytes kept : List ℕ) (s : SpellsName bytes kept) → IsWord s.name
+name_word bytes kept s =
+    let lower : list_all continues_name (str_to_ascii_lowercase s.name) ≡ true = rw s.lower (name_continues kept s.named) in
+    word_of_lower s.name lower
 
 length-lower : (bytes : List ℕ) → length (str_to_ascii_lowercase bytes) ≡ length bytes
 length-lower [] = refl
@@ -113,28 +113,36 @@ length-lower (b ∷ bs) = omega (arith, length-lower bs)
 spelled_name : (name kept : List ℕ) → str_to_ascii_lowercase name ≡ kept → IsColumnName kept → column_name name ≡ Some kept
 spelled_name name kept lower named = rw (lower, named) refl
 
-pub item_read : (item : List ℕ) (column : Column) → Writes item column → IsColumnName column.name → Reads item column
-item_read item column w named =
-    let IsWordName : IsWord w.name = name_word item column w named in
-    let solid = all_so (λ b. continues_name (to_ascii_lowercase b)) (λ b. not (is_blank b)) not_blank in
+pub name_found : (bytes kept : List ℕ) → SpellsName bytes kept → column_name (trimmed bytes) ≡ Some kept
+name_found bytes kept s =
+    let word = name_word bytes kept s in
+    let solid = all_so (λ b. continues_name (to_ascii_lowercase b)) (λ b. not (is_blank b)) not_blank s.name word in
+    let some : 1 ≤ length s.name = omega (arith, length-lower s.name, ap length s.lower, name_some kept s.named) in
+    ap column_name (trimmed_is bytes s.name s.padded solid some) ∙ spelled_name s.name kept s.lower s.named
+
+pub type_found : (bytes : List ℕ) (ty : ColType) → SpellsType bytes ty → type_named (trimmed bytes) ≡ Some ty
+type_found bytes ty s =
+    let word = type_word ty in
+    let solid = all_so (λ b. continues_name (to_ascii_lowercase b)) (λ b. not (is_blank b)) not_blank (type_name ty) word.0 in
+    ap type_named (trimmed_is bytes (type_name ty) s solid word.1) ∙ word.2
+
+pub item_read : (item : List ℕ) (column : Column) → Writes item column → Reads item column
+item_read item column w =
     let no_colon : list_all (λ b. not (is_colon b)) w.left ≡ true =
-    padded_so (λ b. not (is_colon b)) blank_no_colon w.left w.name w.named (all_so (λ b. continues_name (to_ascii_lowercase b)) (λ b. not (is_colon b)) not_colon w.name IsWordName) in
-    let some : 1 ≤ length w.name = omega (arith, length-lower w.name, ap length w.lower, name_some column.name named) in
+    padded_so (λ b. not (is_colon b)) blank_no_colon w.left w.named.name w.named.padded
+    (all_so (λ b. continues_name (to_ascii_lowercase b)) (λ b. not (is_colon b)) not_colon w.named.name (name_word w.left column.name w.named)) in
     let before : before_first is_colon item ≡ w.left = ap (before_first is_colon) w.cut ∙ before_is w.left w.right no_colon in
     let after : after_first is_colon item ≡ w.right = ap (after_first is_colon) w.cut ∙ after_is w.left w.right no_colon in
-    let name : trimmed w.left ≡ w.name = trimmed_is w.left w.name w.named (solid w.name IsWordName) some in
-    let word = type_word column.ty in
-    let ty : trimmed w.right ≡ type_name column.ty = trimmed_is w.right (type_name column.ty) w.typed (solid (type_name column.ty) word.0) word.1 in
     record {
-      name = ap (λ b. column_name (trimmed b)) before ∙ ap column_name name ∙ spelled_name w.name column.name w.lower named;
-      ty = ap (λ b. type_named (trimmed b)) after ∙ ap type_named ty ∙ word.2;
+      name = ap (λ b. column_name (trimmed b)) before ∙ name_found w.left column.name w.named;
+      ty = ap (λ b. type_named (trimmed b)) after ∙ type_found w.right column.ty w.typed;
     }
 
-pub item_whole : (item : List ℕ) (column : Column) → Writes item column → IsColumnName column.name → list_all (λ b. not (is_comma b)) item ≡ true
-item_whole item column w named =
+pub item_whole : (item : List ℕ) (column : Column) → Writes item column → list_all (λ b. not (is_comma b)) item ≡ true
+item_whole item column w =
     let p : ℕ → Bool = λ b. not (is_comma b) in
     let of_word = all_so (λ b. continues_name (to_ascii_lowercase b)) p not_comma in
-    let left = padded_so p blank_no_comma w.left w.name w.named (of_word w.name (name_word item column w named)) in
+    let left = padded_so p blank_no_comma w.left w.named.name w.named.padded (of_word w.named.name (name_word w.left column.name w.named)) in
     let right = padded_so p blank_no_comma w.right (type_name column.ty) w.typed (of_word (type_name column.ty) (type_word column.ty).0) in
     rw w.cut (both_pass p w.left (58 ∷ w.right) left right)
 
@@ -151,21 +159,23 @@ colon_there item ty is =
         let clash : None ≡ Some ty = sym none ∙ is in
         cc
 
+pub name_spelled : (bytes kept : List ℕ) → column_name (trimmed bytes) ≡ Some kept → SpellsName bytes kept
+name_spelled bytes kept is =
+    let found = kept_if (is_column_name (str_to_ascii_lowercase (trimmed bytes))) (str_to_ascii_lowercase (trimmed bytes)) kept is in
+    record { name = trimmed bytes; padded = padded_trimmed bytes; lower = found.1; named = column_name-named (trimmed bytes) kept is }
+
 pub item_written : (item : List ℕ) (column : Column) → Reads item column → Writes item column
 item_written item column r =
     let left = before_first is_colon item in
     let right = after_first is_colon item in
     let there = colon_there item column.ty r.ty in
     let colon : get_or item (position_or_len is_colon item) 0 ≡ 58 = eqb-true _ 58 (passes_at_first is_colon item 0 there) in
-    let name = kept_if (is_column_name (str_to_ascii_lowercase (trimmed left))) (str_to_ascii_lowercase (trimmed left)) column.name r.name in
     let word : type_name column.ty ≡ trimmed right = type_named-name (trimmed right) column.ty r.ty in
     record {
       left = left;
       right = right;
-      name = trimmed left;
       cut = split_at_first is_colon item 0 there ∙ ap (λ b. left ++ b ∷ right) colon;
-      named = padded_trimmed left;
-      lower = name.1;
+      named = name_spelled left column.name r.name;
       typed = rw word (padded_trimmed right);
     }
 
@@ -178,10 +188,8 @@ pub printed_item : (column : Column) → IsColumnName column.name → Writes (co
 printed_item column named = record {
   left = column.name;
   right = type_name column.ty;
-  name = column.name;
   cut = refl;
-  named = bare column.name;
-  lower = lower_same column.name (name_continues column.name named);
+  named = record { name = column.name; padded = bare column.name; lower = lower_same column.name (name_continues column.name named); named = named };
   typed = bare (type_name column.ty);
 }
 

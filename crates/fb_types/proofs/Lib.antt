@@ -1,6 +1,8 @@
+pub mod AllOrFirstFacts
 pub mod BlankFacts
 pub mod CellFacts
 pub mod EachFacts
+pub mod FaultFacts
 pub mod FieldFacts
 pub mod ItemFacts
 pub mod NameFacts

@@ -18,7 +18,8 @@ use Rattle.fb_types.specs.SchemaText.{AreRead, IsFaultIn, SchemaFault, Spells, W
 use Rattle.fb_types.specs.Names.{IsColumnName}
 use Rattle.fb_types.specs.Types.{type_name}
 use Rattle.fb_types.proofs.BlankFacts.{both_pass, not_false}
-use Rattle.fb_types.proofs.EachFacts.{EachSo, all_ok, each-so, ok_all, schema_ok, so-each, so-free, so-written, written-so}
+use Rattle.fb_types.proofs.AllOrFirstFacts.{all-found, all-ok}
+use Rattle.fb_types.proofs.EachFacts.{EachSo, each-so, schema_ok, so-each, so-free, so-written, written-so}
 use Rattle.fb_types.proofs.ItemFacts.{item_whole, name-line, printed_item, type-line}
 use Rattle.fb_types.proofs.SchemaFacts.{AreFree, free-schema, schema-free}
 
@@ -61,7 +62,7 @@ read-each text columns is =
     let outer = if_ok (list_all is_blank text) _ _ columns is in
     let inner = if_ok (nat_lt 255 (length (items_of text))) _ _ columns outer.1 in
     let told = schema_ok (all_or_first 1 (each_column [] (items_of text))) columns inner.1 in
-    (few_items text inner.0, each-so [] (items_of text) columns (ok_all 1 (each_column [] (items_of text)) columns told))
+    (few_items text inner.0, each-so [] (items_of text) columns (all-ok 1 (each_column [] (items_of text)) columns told))
 
 pub read_spelled : (text : List ℕ) (columns : List Column) → read_schema text ≡ Ok columns → Spells text columns
 read_spelled text columns is = record {
@@ -87,10 +88,10 @@ unfolding AreFree
 items_again [] columns written taken free some = absurd (omega arith)
 items_again (item ∷ items) [] written taken free some = absurd written
 items_again (item ∷ []) (column ∷ columns) written taken free some =
-    slice_split_none is_comma item (no_comma item (item_whole item column written.0 free.0))
+    slice_split_none is_comma item (no_comma item (item_whole item column written.0))
 items_again (item ∷ next ∷ items) (column ∷ columns) written taken free some =
     let later = items_again (next ∷ items) columns written.1 (taken ++ column.name ∷ []) free.2 (omega arith) in
-    slice_split_at is_comma item 44 (join_with_byte 44 (next ∷ items)) (no_comma item (item_whole item column written.0 free.0)) refl ∙ ap (λ r. item ∷ r) later
+    slice_split_at is_comma item 44 (join_with_byte 44 (next ∷ items)) (no_comma item (item_whole item column written.0)) refl ∙ ap (λ r. item ∷ r) later
 
 and_false : (a b : Bool) → b ≡ false → (a && b) ≡ false
 and_false true b is = is
@@ -120,7 +121,7 @@ spelled_read text columns schema spelled =
     let shown : list_all is_blank text ≡ false = ap (list_all is_blank) spelled.joined ∙ text_shown items columns spelled.each some in
     let few : count_by is_comma text < 255 = omega (arith, length-slice_split is_comma text, ap length again, schema.few) in
     let each : each_column [] items ≡ map Ok columns = so-each [] items columns (written-so [] items columns spelled.each free) in
-    let all : columns_of items ≡ Ok columns = ap (λ answers. schema_or_fault (all_or_first 1 answers)) each ∙ ap schema_or_fault (all_ok 1 columns) in
+    let all : columns_of items ≡ Ok columns = ap (λ answers. schema_or_fault (all_or_first 1 answers)) each ∙ ap schema_or_fault (all-found 1 columns) in
     reads-columns text items (Ok columns) shown few again all
 
 abbrev told : List Column → Result (List Column) SchemaFault

@@ -2,6 +2,7 @@ ghost use Rattle.std.specs.Prelude.{◌≡◌, ◌<◌, [], ◌∷◌, ◌++◌,
 ghost use Rattle.std.specs.List.{after_first, before_first, list_all, list_any, position};
 ghost use Rattle.std.specs.Str.{bytes_eq};
 ghost use Rattle.fb_types.specs.Field.{is_blank as is_blank_byte};
+ghost use Rattle.fb_types.specs.FirstFault.{IsFirstFault};
 ghost use Rattle.fb_types.specs.SchemaText.{AreRead, IsFaultIn, IsFaultOf, Spells, column_or_fault, column_text, columns_of, is_colon, is_comma, items_of, name_in, read_schema, schema_text, separator_before, type_in};
 ghost use Rattle.fb_types.specs.Schemas.{IsSchema};
 ghost use Rattle.fb_types.specs.declared.schemas.Column.{Column};
@@ -24,7 +25,7 @@ pub enum SchemaKind {
     Repeated,
 }
 
-/// Why a schema text is refused; columns count from 1.
+/// Why a schema text is refused. Columns count from 1; `Empty` is told at column 0.
 #[derive(Debug, Drop, Error)]
 pub enum MetaFault {
     #[error("schema at column {column}: {kind:?}")]
@@ -56,6 +57,9 @@ pub fn parse_schema(alloc: Global, text: &str) -> Result<Schema, MetaFault>
     // What is read is spelled by the text, and a schema that it spells is read.
     ensures spelled { IfOk result (λ schema. Spells text.now schema) }
     ensures only { (schema : List Column) → IsSchema schema → Spells text.now schema → AreRead schema result }
+
+    // The fault is the first in the text.
+    ensures first { IfErr result (λ fault. IsFirstFault fault text.now) }
 {
     read(alloc, text.as_bytes())
 }
@@ -130,8 +134,8 @@ fn add(columns: &mut Vec<Column>, column: Column) -> Result<(), AllocError>
     Ok(())
 }
 
-#[tactic(auto, using(crate::proofs::EachFacts::taken_of))]
 /// The column of an item that stands after those of the earlier columns, or what is wrong with it.
+#[tactic(auto, using(crate::proofs::EachFacts::taken_of))]
 fn column_after(
     alloc: Global,
     earlier: &[Column],

@@ -42,8 +42,8 @@ abbrev pub limited : List ℕ → ℤ → Result Clause QueryKind
 limited name value = if fits_128 value then Ok (less_than name value) else Err kind.Literal
 
 -- the text spells the clause
-abbrev pub Spells : Clause → List ℕ → Type 0
-Spells c text = (name : List ℕ) × (value : ℤ) × (c ≡ less_than name value) × IsLessThan name value text × (fits_128 value ≡ true)
+abbrev pub SpellsClause : Clause → List ℕ → Type 0
+SpellsClause c text = (name : List ℕ) × (value : ℤ) × (c ≡ less_than name value) × IsLessThan name value text × (fits_128 value ≡ true)
 
 -- the text has no clause for this reason
 abbrev pub IsRefusedFor : QueryKind → List ℕ → Type 0

@@ -1,12 +1,13 @@
 //! The tokens of a query's text.
 
-ghost use Rattle.std.specs.Prelude.{◌≡◌, ◌≤◌, ◌^◌, ◌-◌, true, length, min, IfOk};
+ghost use Rattle.std.specs.Prelude.{◌≡◌, ◌≤◌, ◌^◌, ◌-◌, true, List, length, min, Some, IfOk, IfSome};
 ghost use Rattle.std.specs.Option.{option_map};
 ghost use Rattle.std.specs.List.{prefix_len, list_all};
 ghost use Rattle.std.specs.Char.{is_ascii_digit};
 ghost use Rattle.std.specs.Str.{str_to_ascii_lowercase};
 ghost use Rattle.std.specs.Str.Parse.{digits_value};
-ghost use Rattle.where_grammar.specs.Tokens.{begins_word, double_sign, in_word, is_blank, number, number_at, sign_at, signed, single_sign, token_at, tokens_of, word_at};
+ghost use Rattle.where_grammar.specs.declared.token.Token.{Token};
+ghost use Rattle.where_grammar.specs.Tokens.{Spells, begins_word, double_sign, in_word, is_blank, number, number_at, sign_at, signed, single_sign, token_at, tokens_of, word_at};
 
 use crate::clause::Op;
 use fb_types::Label;
@@ -204,8 +205,7 @@ fn token_at(alloc: Global, text: &[u8]) -> Result<Option<(Token, &[u8])>, AllocE
     }
 }
 
-/// The tokens of a text, None where at some place no token stands.
-pub(crate) fn tokens(alloc: Global, text: &[u8]) -> Result<Option<Items<Token>>, AllocError>
+fn lexed(alloc: Global, text: &[u8]) -> Result<Option<Items<Token>>, AllocError>
     ensures { IfOk result (λ found. found ≡ tokens_of text.now) }
 {
     let mut tokens = Items::new(alloc);
@@ -224,4 +224,15 @@ pub(crate) fn tokens(alloc: Global, text: &[u8]) -> Result<Option<Items<Token>>,
         }
     }
     Ok(Some(tokens))
+}
+
+/// The tokens of a text, None where at some place no token stands.
+pub(crate) fn tokens(alloc: Global, text: &[u8]) -> Result<Option<Items<Token>>, AllocError>
+    // The tokens given are those that the text spells, and none are given only where it spells none.
+    ensures found { IfOk result (λ found. IfSome found (λ tokens. Spells text.now tokens)) }
+    ensures only { (tokens : List Token) → Spells text.now tokens → IfOk result (λ found. found ≡ Some tokens) }
+
+    ensures exact { IfOk result (λ found. found ≡ tokens_of text.now) }
+{
+    lexed(alloc, text)
 }

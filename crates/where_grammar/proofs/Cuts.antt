@@ -13,7 +13,8 @@ use Rattle.fb_types.proofs.FieldFacts.{natural_of-digits}
 use Rattle.where_grammar.specs.declared.token.Sign.{Sign}
 use Rattle.where_grammar.specs.declared.token.Token.{Token}
 use Rattle.where_grammar.specs.declared.token.Token.TheVariants as t
-use Rattle.where_grammar.specs.Tokens.{is_word, IsWritten, goes_on, StopsAt, begins_word, in_word, fits_128, double_sign, single_sign, single_before, longest, number, signed, word_at, number_at, sign_at, token_at}
+use Rattle.where_grammar.specs.Tokens.{is_quote, doubled, IsQuoted, unquoted, text_at, is_word, IsWritten, goes_on, StopsAt, begins_word, in_word, fits_128, double_sign, single_sign, single_before, longest, number, signed, word_at, number_at, sign_at, token_at}
+use Rattle.where_grammar.proofs.Quotes.{unquoted_cuts}
 use Rattle.where_grammar.proofs.Cases.{chosen, guarded, mapped}
 use Rattle.where_grammar.proofs.Runs.{front_passes, rest_stops, and_parts}
 
@@ -119,13 +120,28 @@ sign_cuts [] found e = absurd cc
 sign_cuts (a ∷ []) found e = single_cuts a [] found tt e
 sign_cuts (a ∷ b ∷ rest) found e = longest_cuts a b rest (double_sign a b) found refl e
 
+-- ---- texts
+
+text_cuts : (quote : ℕ) (text : List ℕ) (found : Token × List ℕ) → is_quote quote ≡ true → text_at quote text ≡ Some found → CutsAt (quote ∷ text) found
+unfolding text_at
+text_cuts quote text found is e =
+    let h = mapped (λ f. (t.Text f.0, f.1)) (unquoted quote text) found e in
+    let word = h.0.0 in
+    let rest = h.0.1 in
+    let told = unquoted_cuts quote text h.0 h.1.0 in
+    let form = quote ∷ (doubled quote word ++ quote ∷ []) in
+    let cut : quote ∷ text ≡ form ++ rest = ap (λ xs. quote ∷ xs) (told.0 ∙ sym (append_assoc (doubled quote word) (quote ∷ []) rest)) in
+    let written : IsQuoted form word = record { quote = quote; is_one = is; cut = refl } in
+    subst (CutsAt (quote ∷ text)) h.1.1 (record { form = form; cut = cut; written = written; ends = told.1 })
+
 -- ---- every token
 
 pub token_cuts : (text : List ℕ) (found : Token × List ℕ) → token_at text ≡ Some found → CutsAt text found
 unfolding token_at
 token_cuts [] found e = absurd cc
 token_cuts (b ∷ bs) found e =
-    let sign : Option (Token × List ℕ) = sign_at (b ∷ bs) in
+    let text : Option (Token × List ℕ) = text_at b bs in
+    let sign : Option (Token × List ℕ) = cond (is_quote b) text (sign_at (b ∷ bs)) in
     let word : Option (Token × List ℕ) = Some (word_at (b ∷ bs)) in
     let digits : Option (Token × List ℕ) = number_at false (b ∷ bs) in
     let plus : Option (Token × List ℕ) = number_at false bs in
@@ -138,7 +154,10 @@ token_cuts (b ∷ bs) found e =
           | inl f ↦ number_cuts [] false (b ∷ bs) found whole_of-plain f.1
           | inr f ↦ elim (chosen (begins_word b) word sign (Some found) f.1) [
             | inl k ↦ word_cuts b bs found k.0 k.1
-            | inr k ↦ sign_cuts (b ∷ bs) found k.1
+            | inr k ↦ elim (chosen (is_quote b) text (sign_at (b ∷ bs)) (Some found) k.1) [
+              | inl l ↦ text_cuts b bs found l.0 l.1
+              | inr l ↦ sign_cuts (b ∷ bs) found l.1
+            ]
           ]
         ]
       ]

@@ -47,24 +47,28 @@ written_name : (form name : List ℕ) (token : Token) → IsWritten form token �
 written_name form name (t.Word word) written e = sym (lowered_name form) ∙ (ap column_name (sym written.1) ∙ e)
 written_name form name (t.Number z) written e = absurd cc
 written_name form name t.Large written e = absurd cc
+written_name form name (t.Text word) written e = absurd cc
 written_name form name (t.Sign s) written e = absurd cc
 
 written_less : (form : List ℕ) (token : Token) → IsWritten form token → is_less_sign token ≡ true → form ≡ codes "<"
 written_less form (t.Word word) written e = absurd cc
 written_less form (t.Number z) written e = absurd cc
 written_less form t.Large written e = absurd cc
+written_less form (t.Text word) written e = absurd cc
 written_less form (t.Sign s) written e = less_written form s written e
 
 written_number : (form : List ℕ) (value : ℤ) (token : Token) → IsWritten form token → value_in token ≡ Ok value → (whole_of form ≡ Some value) × (fits_128 value ≡ true)
 written_number form value (t.Word word) written e = absurd cc
 written_number form value (t.Number z) written e = let same : z ≡ value = cc in subst (λ n. (whole_of form ≡ Some n) × (fits_128 n ≡ true)) same written
 written_number form value t.Large written e = absurd cc
+written_number form value (t.Text word) written e = absurd cc
 written_number form value (t.Sign s) written e = absurd cc
 
 written_large : (form : List ℕ) (token : Token) → IsWritten form token → value_in token ≡ Err kind.Literal → (value : ℤ) × (whole_of form ≡ Some value) × (fits_128 value ≡ false)
 written_large form (t.Word word) written e = absurd cc
 written_large form (t.Number z) written e = absurd cc
 written_large form t.Large written e = written
+written_large form (t.Text word) written e = absurd cc
 written_large form (t.Sign s) written e = absurd cc
 
 -- the pieces of a text with three tokens
@@ -127,6 +131,7 @@ compared_unknown (Some m) false token name e = absurd cc
 compared_unknown (Some m) true (t.Word word) name e = absurd cc
 compared_unknown (Some m) true (t.Number z) name e = absurd cc
 compared_unknown (Some m) true t.Large name e = absurd cc
+compared_unknown (Some m) true (t.Text word) name e = absurd cc
 compared_unknown (Some m) true (t.Sign s) name e = absurd cc
 
 spelled_by : (text : List ℕ) (ts : List Token) (c : Clause) → Spells text ts → clause_of ts ≡ Ok c → SpellsClause c text

@@ -6,6 +6,7 @@ pub mod Shorter
 pub mod Lexing
 pub mod Cuts
 pub mod Spelled
+pub mod Quotes
 pub mod Signs
 pub mod Reread
 pub mod Laws

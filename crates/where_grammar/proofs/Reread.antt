@@ -1,5 +1,5 @@
 -- The tokens that a text spells are those that the function gives.
-use Rattle.std.proofs.Common.{◌≡◌, ℕ, ◌<◌, Bool, true, false, cond, List, [], ◌∷◌, ◌++◌, length, take, drop, refl, sym, ap, subst, ◌∙◌, eqb, eqb-true, inl, inr, arith, ℤ, pos, neg_ℤ}
+use Rattle.std.proofs.Common.{◌≡◌, append_assoc, ℕ, ◌<◌, Bool, true, false, cond, List, [], ◌∷◌, ◌++◌, length, take, drop, refl, sym, ap, subst, ◌∙◌, eqb, eqb-true, inl, inr, arith, ℤ, pos, neg_ℤ}
 use Rattle.std.specs.Prelude.{Option, Some, None, is_some}
 use Rattle.std.specs.Option.{option_map}
 use Rattle.std.specs.List.{prefix_len, list_all}
@@ -15,11 +15,12 @@ use Rattle.where_grammar.specs.declared.token.Sign.{Sign}
 use Rattle.where_grammar.specs.declared.token.Sign.TheVariants as sign
 use Rattle.where_grammar.specs.declared.token.Token.{Token}
 use Rattle.where_grammar.specs.declared.token.Token.TheVariants as t
-use Rattle.where_grammar.specs.Tokens.{is_blank, begins_word, in_word, fits_128, double_sign, single_sign, is_word, sign_of, IsWritten, goes_on, StopsAt, Spells, number, signed, word_at, number_at, sign_at, token_at, tokens_of}
+use Rattle.where_grammar.specs.Tokens.{is_quote, doubled, IsQuoted, is_first, text_at, is_blank, begins_word, in_word, fits_128, double_sign, single_sign, is_word, sign_of, IsWritten, goes_on, StopsAt, Spells, number, signed, word_at, number_at, sign_at, token_at, tokens_of}
 use Rattle.where_grammar.specs.Language.{IsLessThan}
 use Rattle.where_grammar.proofs.Cases.{chosen, mapped}
 use Rattle.where_grammar.proofs.Runs.{prefix_len-cut, and_parts, all_append}
 use Rattle.where_grammar.proofs.Lexing.{tokens_of-blank, tokens_of-some, tokens_of-empty}
+use Rattle.where_grammar.proofs.Quotes.{unquoted_again}
 use Rattle.where_grammar.proofs.Cuts.{no_minus, no_plus}
 use Rattle.where_grammar.proofs.Signs.{BeginsSign, single_begins, double_begins}
 
@@ -194,13 +195,47 @@ sign_reads a others s rest f e =
     let no_plus : eqb a 43 ≡ false = f.no_plus in
     let no_digit : is_ascii_digit a ≡ false = f.no_digit in
     let no_word : begins_word a ≡ false = f.no_word in
-    record { first = a; others = others; cons = refl; visible = f.visible; found = rw (no_minus, no_plus, no_digit, no_word) e }
+    let no_quote : is_quote a ≡ false = f.no_quote in
+    record { first = a; others = others; cons = refl; visible = f.visible; found = rw (no_minus, no_plus, no_digit, no_word, no_quote) e }
 
 signs_read : (form rest : List ℕ) (s : Sign) → sign_of form ≡ Some s → StopsAt (goes_on form (t.Sign s)) rest → Reads (form ++ rest) (t.Sign s) rest
 signs_read [] rest s e stops = absurd cc
 signs_read (a ∷ []) rest s e stops = sign_reads a rest s rest (single_begins a s e) (single_found a s rest e stops)
 signs_read (a ∷ b ∷ []) rest s e stops = sign_reads a (b ∷ rest) s rest (double_begins a b s e) (double_found a b s rest e)
 signs_read (a ∷ b ∷ c ∷ bs) rest s e stops = absurd cc
+
+-- ---- texts
+
+record QuoteFacts (b : ℕ) : Type 0 where
+  visible : is_blank b ≡ false
+  no_minus : eqb b 45 ≡ false
+  no_plus : eqb b 43 ≡ false
+  no_digit : is_ascii_digit b ≡ false
+  no_word : begins_word b ≡ false
+
+quote_facts : (b : ℕ) → is_quote b ≡ true → QuoteFacts b
+quote_facts b e = record { visible = grind (arith, nat_tests); no_minus = grind (arith, nat_tests); no_plus = grind (arith, nat_tests); no_digit = grind (arith, nat_tests); no_word = grind (arith, nat_tests) }
+
+text_again : (quote : ℕ) (word rest : List ℕ) → StopsAt (λ b. eqb b quote) rest → text_at quote (doubled quote word ++ (quote ∷ rest)) ≡ Some (t.Text word, rest)
+unfolding text_at
+text_again quote word rest stops = ap (option_map (λ f. (t.Text f.0, f.1))) (unquoted_again quote word rest stops)
+
+quoted_reads : (quote : ℕ) (word rest : List ℕ) → is_quote quote ≡ true → StopsAt (λ b. eqb b quote) rest → Reads (quote ∷ (doubled quote word ++ (quote ∷ rest))) (t.Text word) rest
+unfolding token_at
+quoted_reads quote word rest is stops =
+    let f = quote_facts quote is in
+    let no_minus : eqb quote 45 ≡ false = f.no_minus in
+    let no_plus : eqb quote 43 ≡ false = f.no_plus in
+    let no_digit : is_ascii_digit quote ≡ false = f.no_digit in
+    let no_word : begins_word quote ≡ false = f.no_word in
+    record { first = quote; others = doubled quote word ++ (quote ∷ rest); cons = refl; visible = f.visible; found = rw (no_minus, no_plus, no_digit, no_word, is) (text_again quote word rest stops) }
+
+texts_read : (form rest word : List ℕ) → IsQuoted form word → StopsAt (is_first form) rest → Reads (form ++ rest) (t.Text word) rest
+texts_read form rest word is stops =
+    let stops_at : StopsAt (λ b. eqb b is.quote) rest = subst (λ xs. StopsAt (is_first xs) rest) is.cut stops in
+    let joined : is.quote ∷ (doubled is.quote word ++ (is.quote ∷ rest)) ≡ form ++ rest =
+    ap (λ xs. is.quote ∷ xs) (sym (append_assoc (doubled is.quote word) (is.quote ∷ []) rest)) ∙ ap (λ xs. xs ++ rest) (sym is.cut) in
+    subst (λ xs. Reads xs (t.Text word) rest) joined (quoted_reads is.quote word rest is.is_one stops_at)
 
 -- ---- every token
 
@@ -212,6 +247,7 @@ token_reads : (token : Token) (form rest : List ℕ) → IsWritten form token �
 token_reads (t.Word word) form rest written stops = subst (λ w. Reads (form ++ rest) (t.Word w) rest) (sym written.1) (words_read form rest written.0 stops)
 token_reads (t.Number z) form rest written stops = let fits : fits_128 z ≡ true = written.1 in subst (λ token. Reads (form ++ rest) token rest) (rw fits refl) (number_reads form rest z written.0 stops)
 token_reads t.Large form rest written stops = let large : fits_128 written.0 ≡ false = written.2 in subst (λ token. Reads (form ++ rest) token rest) (rw large refl) (number_reads form rest written.0 written.1 stops)
+token_reads (t.Text word) form rest written stops = texts_read form rest word written stops
 token_reads (t.Sign s) form rest written stops = signs_read form rest s written stops
 
 -- ---- where tokens end

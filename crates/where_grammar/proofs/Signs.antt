@@ -5,7 +5,7 @@ use Rattle.std.specs.Char.{is_ascii_digit}
 use Rattle.where_grammar.specs.declared.clause.Op.TheVariants as op
 use Rattle.where_grammar.specs.declared.token.Sign.{Sign}
 use Rattle.where_grammar.specs.declared.token.Sign.TheVariants as sign
-use Rattle.where_grammar.specs.Tokens.{is_blank, begins_word, double_sign, single_sign, sign_of}
+use Rattle.where_grammar.specs.Tokens.{is_blank, is_quote, begins_word, double_sign, single_sign, sign_of}
 use Rattle.where_grammar.specs.Language.{is_less}
 use Rattle.where_grammar.proofs.Cases.{chosen}
 use Rattle.where_grammar.proofs.Runs.{and_parts}
@@ -72,6 +72,7 @@ pub record BeginsSign (b : ℕ) : Type 0 where
   pub no_plus : eqb b 43 ≡ false
   pub no_digit : is_ascii_digit b ≡ false
   pub no_word : begins_word b ≡ false
+  pub no_quote : is_quote b ≡ false
 
 here : (b n : ℕ) → BeginsSign n → eqb b n ≡ true → BeginsSign b
 here b n begins same = subst BeginsSign (sym (eqb-true b n same)) begins
@@ -79,22 +80,22 @@ here b n begins same = subst BeginsSign (sym (eqb-true b n same)) begins
 pub single_begins : (b : ℕ) (s : Sign) → single_sign b ≡ Some s → BeginsSign b
 single_begins b s e =
     by_single (λ found. BeginsSign b) b s e
-    (here b 60 (record { visible = refl; no_minus = refl; no_plus = refl; no_digit = refl; no_word = refl }))
-    (here b 62 (record { visible = refl; no_minus = refl; no_plus = refl; no_digit = refl; no_word = refl }))
-    (here b 61 (record { visible = refl; no_minus = refl; no_plus = refl; no_digit = refl; no_word = refl }))
-    (here b 33 (record { visible = refl; no_minus = refl; no_plus = refl; no_digit = refl; no_word = refl }))
-    (here b 40 (record { visible = refl; no_minus = refl; no_plus = refl; no_digit = refl; no_word = refl }))
-    (here b 41 (record { visible = refl; no_minus = refl; no_plus = refl; no_digit = refl; no_word = refl }))
-    (here b 44 (record { visible = refl; no_minus = refl; no_plus = refl; no_digit = refl; no_word = refl }))
-    (here b 42 (record { visible = refl; no_minus = refl; no_plus = refl; no_digit = refl; no_word = refl }))
+    (here b 60 (record { visible = refl; no_minus = refl; no_plus = refl; no_digit = refl; no_word = refl; no_quote = refl }))
+    (here b 62 (record { visible = refl; no_minus = refl; no_plus = refl; no_digit = refl; no_word = refl; no_quote = refl }))
+    (here b 61 (record { visible = refl; no_minus = refl; no_plus = refl; no_digit = refl; no_word = refl; no_quote = refl }))
+    (here b 33 (record { visible = refl; no_minus = refl; no_plus = refl; no_digit = refl; no_word = refl; no_quote = refl }))
+    (here b 40 (record { visible = refl; no_minus = refl; no_plus = refl; no_digit = refl; no_word = refl; no_quote = refl }))
+    (here b 41 (record { visible = refl; no_minus = refl; no_plus = refl; no_digit = refl; no_word = refl; no_quote = refl }))
+    (here b 44 (record { visible = refl; no_minus = refl; no_plus = refl; no_digit = refl; no_word = refl; no_quote = refl }))
+    (here b 42 (record { visible = refl; no_minus = refl; no_plus = refl; no_digit = refl; no_word = refl; no_quote = refl }))
 
 pub double_begins : (a b : ℕ) (s : Sign) → double_sign a b ≡ Some s → BeginsSign a
 double_begins a b s e =
     by_double (λ found. BeginsSign a) a b s e
-    (here a 60 (record { visible = refl; no_minus = refl; no_plus = refl; no_digit = refl; no_word = refl }))
-    (here a 62 (record { visible = refl; no_minus = refl; no_plus = refl; no_digit = refl; no_word = refl }))
-    (here a 61 (record { visible = refl; no_minus = refl; no_plus = refl; no_digit = refl; no_word = refl }))
-    (here a 33 (record { visible = refl; no_minus = refl; no_plus = refl; no_digit = refl; no_word = refl }))
-    (here a 60 (record { visible = refl; no_minus = refl; no_plus = refl; no_digit = refl; no_word = refl }))
-    (here a 38 (record { visible = refl; no_minus = refl; no_plus = refl; no_digit = refl; no_word = refl }))
-    (here a 124 (record { visible = refl; no_minus = refl; no_plus = refl; no_digit = refl; no_word = refl }))
+    (here a 60 (record { visible = refl; no_minus = refl; no_plus = refl; no_digit = refl; no_word = refl; no_quote = refl }))
+    (here a 62 (record { visible = refl; no_minus = refl; no_plus = refl; no_digit = refl; no_word = refl; no_quote = refl }))
+    (here a 61 (record { visible = refl; no_minus = refl; no_plus = refl; no_digit = refl; no_word = refl; no_quote = refl }))
+    (here a 33 (record { visible = refl; no_minus = refl; no_plus = refl; no_digit = refl; no_word = refl; no_quote = refl }))
+    (here a 60 (record { visible = refl; no_minus = refl; no_plus = refl; no_digit = refl; no_word = refl; no_quote = refl }))
+    (here a 38 (record { visible = refl; no_minus = refl; no_plus = refl; no_digit = refl; no_word = refl; no_quote = refl }))
+    (here a 124 (record { visible = refl; no_minus = refl; no_plus = refl; no_digit = refl; no_word = refl; no_quote = refl }))

@@ -57,6 +57,7 @@ abbrev pub name_in : Token → Option (List ℕ)
 name_in (t.Word word) = column_name word
 name_in (t.Number value) = None
 name_in t.Large = None
+name_in (t.Text word) = None
 name_in (t.Sign s) = None
 
 abbrev pub is_less : Sign → Bool
@@ -67,12 +68,14 @@ abbrev pub is_less_sign : Token → Bool
 is_less_sign (t.Word word) = false
 is_less_sign (t.Number value) = false
 is_less_sign t.Large = false
+is_less_sign (t.Text word) = false
 is_less_sign (t.Sign s) = is_less s
 
 abbrev pub value_in : Token → Result ℤ QueryKind
 value_in (t.Word word) = Err kind.Syntax
 value_in (t.Number value) = Ok value
 value_in t.Large = Err kind.Literal
+value_in (t.Text word) = Err kind.Syntax
 value_in (t.Sign s) = Err kind.Syntax
 
 abbrev pub compared : Option (List ℕ) → Bool → Result ℤ QueryKind → Result Clause QueryKind

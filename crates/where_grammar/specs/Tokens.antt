@@ -62,11 +62,32 @@ sign_of (a ∷ []) = single_sign a
 sign_of (a ∷ b ∷ []) = double_sign a b
 sign_of (a ∷ b ∷ c ∷ bs) = None
 
+-- a double or a single quote
+abbrev pub is_quote : ℕ → Bool
+is_quote b = b == 34 || b == 39
+
+-- a text with each such quote in it written twice
+abbrev pub doubled : ℕ → List ℕ → List ℕ
+doubled quote [] = []
+doubled quote (b ∷ bs) = if b == quote then quote ∷ quote ∷ doubled quote bs else b ∷ doubled quote bs
+
+-- a text between two quotes
+pub record IsQuoted (form word : List ℕ) : Type 0 where
+  pub quote : ℕ
+  pub is_one : is_quote quote ≡ true
+  pub cut : form ≡ quote ∷ (doubled quote word ++ quote ∷ [])
+
+-- the byte is the first one of the form
+abbrev pub is_first : List ℕ → ℕ → Bool
+is_first [] b = false
+is_first (first ∷ form) b = b == first
+
 -- the form of a token
 abbrev pub IsWritten : List ℕ → Token → Type 0
 IsWritten form (t.Word word) = (is_word form ≡ true) × (word ≡ str_to_ascii_lowercase form)
 IsWritten form (t.Number z) = (whole_of form ≡ Some z) × (fits_128 z ≡ true)
 IsWritten form t.Large = (z : ℤ) × (whole_of form ≡ Some z) × (fits_128 z ≡ false)
+IsWritten form (t.Text word) = IsQuoted form word
 IsWritten form (t.Sign s) = sign_of form ≡ Some s
 
 -- a byte that would make the token longer
@@ -74,6 +95,7 @@ abbrev pub goes_on : List ℕ → Token → ℕ → Bool
 goes_on form (t.Word word) b = in_word b
 goes_on form (t.Number z) b = is_ascii_digit b
 goes_on form t.Large b = is_ascii_digit b
+goes_on form (t.Text word) b = is_first form b
 goes_on form (t.Sign s) b = is_some (sign_of (form ++ b ∷ []))
 
 -- no such byte is at the front
@@ -113,6 +135,20 @@ number_at is_negative text =
     let n = prefix_len is_ascii_digit text in
     if n == 0 then None else Some (number (signed is_negative (digits_value 10 (take n text))), drop n text)
 
+abbrev pub with_byte : ℕ → Option (List ℕ × List ℕ) → Option (List ℕ × List ℕ)
+with_byte b found = option_map (λ f. (b ∷ f.0, f.1)) found
+
+-- the text up to the quote that ends it, and what follows that
+abbrev pub unquoted : ℕ → List ℕ → Option (List ℕ × List ℕ)
+unquoted quote [] = None
+unquoted quote (b ∷ []) = if b == quote then Some ([], []) else None
+unquoted quote (b ∷ c ∷ bs) =
+    if b == quote then (if c == quote then with_byte quote (unquoted quote bs) else Some ([], c ∷ bs))
+    else with_byte b (unquoted quote (c ∷ bs))
+
+unfoldable pub text_at : ℕ → List ℕ → Option (Token × List ℕ)
+text_at quote text = option_map (λ f. (t.Text f.0, f.1)) (unquoted quote text)
+
 abbrev pub single_before : ℕ → List ℕ → Option (Token × List ℕ)
 single_before b rest = option_map (λ s. (t.Sign s, rest)) (single_sign b)
 
@@ -134,7 +170,8 @@ token_at (b ∷ bs) =
     if b == 45 then number_at true bs
     else (if b == 43 then number_at false bs
     else (if is_ascii_digit b then number_at false (b ∷ bs)
-    else (if begins_word b then Some (word_at (b ∷ bs)) else sign_at (b ∷ bs))))
+    else (if begins_word b then Some (word_at (b ∷ bs))
+    else (if is_quote b then text_at b bs else sign_at (b ∷ bs)))))
 
 -- a token at each step, at most n of them with the blanks
 abbrev pub tokens_within : ℕ → List ℕ → Option (List Token)

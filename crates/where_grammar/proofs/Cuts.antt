@@ -1,6 +1,6 @@
 -- What the token that is read at the front tells of the text.
-use Rattle.std.proofs.Common.{◌≡◌, ℕ, ◌≤◌, ◌<◌, Bool, true, false, cond, List, [], ◌∷◌, ◌++◌, length, take, drop, refl, sym, ap, subst, ◌∙◌, inl, inr, eqb, eqb-true, append_assoc, arith, ℤ}
-use Rattle.std.specs.Prelude.{Option, Some, None, ◌&&◌}
+use Rattle.std.proofs.Common.{◌≡◌, ℕ, suc, ◌+◌, ◌≤◌, ◌<◌, Bool, true, false, cond, List, [], ◌∷◌, ◌++◌, length, take, drop, refl, sym, ap, subst, ◌∙◌, inl, inr, eqb, eqb-true, append_assoc, arith, ℤ}
+use Rattle.std.specs.Prelude.{Option, Some, None, is_some}
 use Rattle.std.specs.List.{prefix_len, list_all}
 use Rattle.std.specs.Char.{is_ascii_digit}
 use Rattle.std.specs.Str.{str_to_ascii_lowercase}
@@ -10,32 +10,20 @@ use Rattle.std.proofs.lemmas.List.Sums.{prefix_len-le-length}
 use Rattle.std.proofs.lemmas.Bool.Decides.{nat_tests}
 use Rattle.fb_types.specs.Field.{whole_of}
 use Rattle.fb_types.proofs.FieldFacts.{natural_of-digits}
-use Rattle.where_grammar.specs.declared.clause.Op.TheVariants as op
 use Rattle.where_grammar.specs.declared.token.Sign.{Sign}
-use Rattle.where_grammar.specs.declared.token.Sign.TheVariants as sign
 use Rattle.where_grammar.specs.declared.token.Token.{Token}
 use Rattle.where_grammar.specs.declared.token.Token.TheVariants as t
-use Rattle.where_grammar.specs.Tokens.{begins_word, in_word, fits_128, double_sign, single_sign, single_before, longest, number, signed, word_at, number_at, sign_at, token_at}
-use Rattle.where_grammar.specs.Language.{is_less}
+use Rattle.where_grammar.specs.Tokens.{is_quote, doubled, IsQuoted, unquoted, text_at, is_word, IsWritten, goes_on, StopsAt, begins_word, in_word, fits_128, double_sign, single_sign, single_before, longest, number, signed, word_at, number_at, sign_at, token_at}
+use Rattle.where_grammar.proofs.Quotes.{unquoted_cuts}
 use Rattle.where_grammar.proofs.Cases.{chosen, guarded, mapped}
-use Rattle.where_grammar.proofs.Runs.{front_passes, and_parts}
-
--- the bytes write a number, and the token is that number's
-abbrev pub IsNumeral : List ℕ → Token → Type 0
-IsNumeral form token = (v : ℤ) × ((whole_of form ≡ Some v) × (number v ≡ token))
-
--- how a token is written, as far as `<` is concerned
-abbrev pub IsWritten : List ℕ → Token → Type 0
-IsWritten form (t.Word word) = word ≡ str_to_ascii_lowercase form
-IsWritten form (t.Number z) = IsNumeral form (t.Number z)
-IsWritten form t.Large = IsNumeral form t.Large
-IsWritten form (t.Sign s) = is_less s ≡ true → form ≡ 60 ∷ []
+use Rattle.where_grammar.proofs.Runs.{front_passes, rest_stops, and_parts}
 
 -- a token with no blank before it
 pub record Cuts (text : List ℕ) (token : Token) (rest : List ℕ) : Type 0 where
   pub form : List ℕ
   pub cut : text ≡ form ++ rest
   pub written : IsWritten form token
+  pub ends : StopsAt (goes_on form token) rest
 
 abbrev CutsAt : List ℕ → Token × List ℕ → Type 0
 CutsAt text found = Cuts text found.0 found.1
@@ -60,9 +48,13 @@ whole_of-plain (d ∷ ds) all some =
     let digit = (and_parts (is_ascii_digit d) (list_all is_ascii_digit ds) all).0 in
     rw (no_minus d digit, no_plus d digit, natural_of-digits (d ∷ ds) some all) refl
 
-written_by : (form : List ℕ) (v : ℤ) (fits : Bool) → fits_128 v ≡ fits → whole_of form ≡ Some v → IsWritten form (cond fits (t.Number v) t.Large)
-written_by form v true fits e = (v, (e, rw fits refl))
-written_by form v false fits e = (v, (e, rw fits refl))
+number_written : (form : List ℕ) (v : ℤ) (fits : Bool) → fits_128 v ≡ fits → whole_of form ≡ Some v → IsWritten form (cond fits (t.Number v) t.Large)
+number_written form v true fits e = (e, fits)
+number_written form v false fits e = (v, e, fits)
+
+number_ends : (form rest : List ℕ) (v : ℤ) (fits : Bool) → StopsAt is_ascii_digit rest → StopsAt (goes_on form (cond fits (t.Number v) t.Large)) rest
+number_ends form rest v true stops = stops
+number_ends form rest v false stops = stops
 
 some_digits : (n : ℕ) (text : List ℕ) → eqb n 0 ≡ false → n ≤ length text → 0 < length (take n text)
 some_digits n text some within = let l = length-take-le n text within in grind (arith, nat_tests)
@@ -79,7 +71,7 @@ number_cuts front is_negative text found begins e =
     let h = guarded (eqb n 0) (number v, drop n text) found e in
     let whole : whole_of (front ++ digits) ≡ Some v = begins digits (front_passes is_ascii_digit text) (some_digits n text h.0 (prefix_len-le-length is_ascii_digit text)) in
     let cut : front ++ text ≡ (front ++ digits) ++ drop n text = ap (λ x. front ++ x) (sym (take-append-drop n text)) ∙ sym (append_assoc front digits (drop n text)) in
-    subst (CutsAt (front ++ text)) h.1 (record { form = front ++ digits; cut = cut; written = written_by (front ++ digits) v (fits_128 v) refl whole })
+    subst (CutsAt (front ++ text)) h.1 (record { form = front ++ digits; cut = cut; written = number_written (front ++ digits) v (fits_128 v) refl whole; ends = number_ends (front ++ digits) (drop n text) v (fits_128 v) (rest_stops is_ascii_digit text) })
 
 sign_number_cuts : (b byte : ℕ) (bs : List ℕ) (is_negative : Bool) (found : Token × List ℕ) → Begins (byte ∷ []) is_negative → eqb b byte ≡ true → number_at is_negative bs ≡ Some found → CutsAt (b ∷ bs) found
 sign_number_cuts b byte bs is_negative found begins same e =
@@ -88,68 +80,59 @@ sign_number_cuts b byte bs is_negative found begins same e =
 
 -- ---- words
 
-word_cuts : (text : List ℕ) (found : Token × List ℕ) → Some (word_at text) ≡ Some found → CutsAt text found
+begins_in_word : (b : ℕ) → begins_word b ≡ true → in_word b ≡ true
+begins_in_word b e = rw e refl
+
+front_is_word : (b : ℕ) (bs : List ℕ) → begins_word b ≡ true → is_word (take (prefix_len in_word (b ∷ bs)) (b ∷ bs)) ≡ true
+front_is_word b bs begins =
+    let n : 1 + prefix_len in_word bs ≡ suc (prefix_len in_word bs) = omega arith in
+    rw (begins_in_word b begins, n, begins, front_passes in_word bs) refl
+
+word_cuts : (b : ℕ) (bs : List ℕ) (found : Token × List ℕ) → begins_word b ≡ true → Some (word_at (b ∷ bs)) ≡ Some found → CutsAt (b ∷ bs) found
 unfolding word_at
-word_cuts text found e =
-    let n = prefix_len in_word text in
-    let same : (t.Word (str_to_ascii_lowercase (take n text)), drop n text) ≡ found = cc in
-    subst (CutsAt text) same (record { form = take n text; cut = sym (take-append-drop n text); written = refl })
+word_cuts b bs found begins e =
+    let n = prefix_len in_word (b ∷ bs) in
+    let form = take n (b ∷ bs) in
+    let same : (t.Word (str_to_ascii_lowercase form), drop n (b ∷ bs)) ≡ found = cc in
+    subst (CutsAt (b ∷ bs)) same (record { form = form; cut = sym (take-append-drop n (b ∷ bs)); written = (front_is_word b bs begins, refl); ends = rest_stops in_word (b ∷ bs) })
 
 -- ---- signs
 
-step : (P : Sign → Type 0) (test : Bool) (here : Sign) (others : Option Sign) (s : Sign) → cond test (Some here) others ≡ Some s → (test ≡ true → P here) → (others ≡ Some s → P s) → P s
-step P test here others s e this more =
-    elim (chosen test (Some here) others (Some s) e) [
-      | inl h ↦ (let same : here ≡ s = cc in subst P same (this h.0))
-      | inr h ↦ more h.1
-    ]
-
-no_sign : (P : Sign → Type 0) (s : Sign) → ◌≡◌ {A = Option Sign} None (Some s) → P s
-no_sign P s e = absurd cc
-
-less_single : (b : ℕ) (s : Sign) → single_sign b ≡ Some s → is_less s ≡ true → b ≡ 60
-less_single b s e =
-    let P : Sign → Type 0 = λ found. is_less found ≡ true → b ≡ 60 in
-    step P (eqb b 60) (sign.Op op.Less) _ s e (λ same less. eqb-true b 60 same) (λ e1.
-    step P (eqb b 62) (sign.Op op.Greater) _ s e1 (λ same less. cc) (λ e2.
-    step P (eqb b 61) (sign.Op op.Equal) _ s e2 (λ same less. cc) (λ e3.
-    step P (eqb b 33) sign.Not _ s e3 (λ same less. cc) (λ e4.
-    step P (eqb b 40) sign.Open _ s e4 (λ same less. cc) (λ e5.
-    step P (eqb b 41) sign.Close _ s e5 (λ same less. cc) (λ e6.
-    step P (eqb b 44) sign.Comma _ s e6 (λ same less. cc) (λ e7.
-    step P (eqb b 42) sign.Star _ s e7 (λ same less. cc) (no_sign P s))))))))
-
--- no sign of two bytes is `<`
-double_is_other : (a b : ℕ) (s : Sign) → double_sign a b ≡ Some s → is_less s ≡ false
-double_is_other a b s e =
-    let P : Sign → Type 0 = λ found. is_less found ≡ false in
-    step P (eqb a 60 && eqb b 61) (sign.Op op.LessEq) _ s e (λ same. refl) (λ e1.
-    step P (eqb a 62 && eqb b 61) (sign.Op op.GreaterEq) _ s e1 (λ same. refl) (λ e2.
-    step P (eqb a 61 && eqb b 61) (sign.Op op.Equal) _ s e2 (λ same. refl) (λ e3.
-    step P (eqb a 33 && eqb b 61) (sign.Op op.Differs) _ s e3 (λ same. refl) (λ e4.
-    step P (eqb a 60 && eqb b 62) (sign.Op op.Differs) _ s e4 (λ same. refl) (λ e5.
-    step P (eqb a 38 && eqb b 38) sign.And _ s e5 (λ same. refl) (λ e6.
-    step P (eqb a 124 && eqb b 124) sign.Or _ s e6 (λ same. refl) (no_sign P s)))))))
-
-single_cuts : (b : ℕ) (rest : List ℕ) (found : Token × List ℕ) → single_before b rest ≡ Some found → CutsAt (b ∷ rest) found
-single_cuts b rest found e =
+single_cuts : (b : ℕ) (rest : List ℕ) (found : Token × List ℕ) → StopsAt (λ c. is_some (double_sign b c)) rest → single_before b rest ≡ Some found → CutsAt (b ∷ rest) found
+single_cuts b rest found stops e =
     let h = mapped (λ s. (t.Sign s, rest)) (single_sign b) found e in
-    let written : IsWritten (b ∷ []) (t.Sign h.0) = λ less. ap (λ x. x ∷ []) (less_single b h.0 h.1.0 less) in
-    subst (CutsAt (b ∷ rest)) h.1.1 (record { form = b ∷ []; cut = refl; written = written })
+    subst (CutsAt (b ∷ rest)) h.1.1 (record { form = b ∷ []; cut = refl; written = h.1.0; ends = stops })
+
+-- no sign has three bytes
+double_ends : (a b : ℕ) (s : Sign) (rest : List ℕ) → StopsAt (goes_on (a ∷ b ∷ []) (t.Sign s)) rest
+double_ends a b s [] = tt
+double_ends a b s (c ∷ rest) = refl
 
 longest_cuts : (a b : ℕ) (rest : List ℕ) (two : Option Sign) (found : Token × List ℕ) → double_sign a b ≡ two → longest two rest (single_before a (b ∷ rest)) ≡ Some found → CutsAt (a ∷ b ∷ rest) found
-longest_cuts a b rest None found is e = single_cuts a (b ∷ rest) found e
+longest_cuts a b rest None found is e = single_cuts a (b ∷ rest) found (rw is refl) e
 longest_cuts a b rest (Some s) found is e =
     let same : (t.Sign s, rest) ≡ found = cc in
-    let other : is_less s ≡ false = double_is_other a b s is in
-    let written : IsWritten (a ∷ b ∷ []) (t.Sign s) = λ less. absurd cc in
-    subst (CutsAt (a ∷ b ∷ rest)) same (record { form = a ∷ b ∷ []; cut = refl; written = written })
+    subst (CutsAt (a ∷ b ∷ rest)) same (record { form = a ∷ b ∷ []; cut = refl; written = is; ends = double_ends a b s rest })
 
 sign_cuts : (text : List ℕ) (found : Token × List ℕ) → sign_at text ≡ Some found → CutsAt text found
 unfolding sign_at
 sign_cuts [] found e = absurd cc
-sign_cuts (a ∷ []) found e = single_cuts a [] found e
+sign_cuts (a ∷ []) found e = single_cuts a [] found tt e
 sign_cuts (a ∷ b ∷ rest) found e = longest_cuts a b rest (double_sign a b) found refl e
+
+-- ---- texts
+
+text_cuts : (quote : ℕ) (text : List ℕ) (found : Token × List ℕ) → is_quote quote ≡ true → text_at quote text ≡ Some found → CutsAt (quote ∷ text) found
+unfolding text_at
+text_cuts quote text found is e =
+    let h = mapped (λ f. (t.Text f.0, f.1)) (unquoted quote text) found e in
+    let word = h.0.0 in
+    let rest = h.0.1 in
+    let told = unquoted_cuts quote text h.0 h.1.0 in
+    let form = quote ∷ (doubled quote word ++ quote ∷ []) in
+    let cut : quote ∷ text ≡ form ++ rest = ap (λ xs. quote ∷ xs) (told.0 ∙ sym (append_assoc (doubled quote word) (quote ∷ []) rest)) in
+    let written : IsQuoted form word = record { quote = quote; is_one = is; cut = refl } in
+    subst (CutsAt (quote ∷ text)) h.1.1 (record { form = form; cut = cut; written = written; ends = told.1 })
 
 -- ---- every token
 
@@ -157,7 +140,8 @@ pub token_cuts : (text : List ℕ) (found : Token × List ℕ) → token_at text
 unfolding token_at
 token_cuts [] found e = absurd cc
 token_cuts (b ∷ bs) found e =
-    let sign : Option (Token × List ℕ) = sign_at (b ∷ bs) in
+    let text : Option (Token × List ℕ) = text_at b bs in
+    let sign : Option (Token × List ℕ) = cond (is_quote b) text (sign_at (b ∷ bs)) in
     let word : Option (Token × List ℕ) = Some (word_at (b ∷ bs)) in
     let digits : Option (Token × List ℕ) = number_at false (b ∷ bs) in
     let plus : Option (Token × List ℕ) = number_at false bs in
@@ -169,8 +153,11 @@ token_cuts (b ∷ bs) found e =
         | inr g ↦ elim (chosen (is_ascii_digit b) digits (cond (begins_word b) word sign) (Some found) g.1) [
           | inl f ↦ number_cuts [] false (b ∷ bs) found whole_of-plain f.1
           | inr f ↦ elim (chosen (begins_word b) word sign (Some found) f.1) [
-            | inl k ↦ word_cuts (b ∷ bs) found k.1
-            | inr k ↦ sign_cuts (b ∷ bs) found k.1
+            | inl k ↦ word_cuts b bs found k.0 k.1
+            | inr k ↦ elim (chosen (is_quote b) text (sign_at (b ∷ bs)) (Some found) k.1) [
+              | inl l ↦ text_cuts b bs found l.0 l.1
+              | inr l ↦ sign_cuts (b ∷ bs) found l.1
+            ]
           ]
         ]
       ]

@@ -13,12 +13,12 @@ use Rattle.where_grammar.specs.declared.clause.ClauseFault.{ClauseFault}
 use Rattle.where_grammar.specs.declared.clause.ClauseFault.TheVariants as fault
 use Rattle.where_grammar.specs.declared.token.Token.{Token}
 use Rattle.where_grammar.specs.declared.token.Token.TheVariants as t
-use Rattle.where_grammar.specs.Tokens.{is_blank, fits_128, number, tokens_of}
-use Rattle.where_grammar.specs.Language.{less_than, IsLessThan, limited, Spells, IsRefusedFor, name_in, is_less_sign, value_in, compared, clause_of, clause_by, read_where, Gives, IsFaultOf}
+use Rattle.where_grammar.specs.Tokens.{is_blank, fits_128, IsWritten, Spells, tokens_of}
+use Rattle.where_grammar.specs.Language.{less_than, IsLessThan, limited, SpellsClause, IsRefusedFor, name_in, is_less_sign, value_in, compared, clause_of, clause_by, read_where, Gives, IsFaultOf}
 use Rattle.where_grammar.proofs.Cases.{chosen}
 use Rattle.where_grammar.proofs.Runs.{append_all}
-use Rattle.where_grammar.proofs.Cuts.{IsNumeral, IsWritten}
-use Rattle.where_grammar.proofs.Divided.{Divides, tokens_of-divided}
+use Rattle.where_grammar.proofs.Signs.{less_written}
+use Rattle.where_grammar.proofs.Spelled.{tokens_of-spelled}
 use Rattle.where_grammar.proofs.Reread.{three_tokens}
 
 -- ---- a text that spells a clause
@@ -44,42 +44,32 @@ read_where-spelled text name value is =
 -- ---- an answer, and what the text spells
 
 written_name : (form name : List ℕ) (token : Token) → IsWritten form token → name_in token ≡ Some name → column_name form ≡ Some name
-written_name form name (t.Word word) written e = sym (lowered_name form) ∙ (ap column_name (sym written) ∙ e)
+written_name form name (t.Word word) written e = sym (lowered_name form) ∙ (ap column_name (sym written.1) ∙ e)
 written_name form name (t.Number z) written e = absurd cc
 written_name form name t.Large written e = absurd cc
+written_name form name (t.Text word) written e = absurd cc
 written_name form name (t.Sign s) written e = absurd cc
 
 written_less : (form : List ℕ) (token : Token) → IsWritten form token → is_less_sign token ≡ true → form ≡ codes "<"
 written_less form (t.Word word) written e = absurd cc
 written_less form (t.Number z) written e = absurd cc
 written_less form t.Large written e = absurd cc
-written_less form (t.Sign s) written e = written e
+written_less form (t.Text word) written e = absurd cc
+written_less form (t.Sign s) written e = less_written form s written e
 
-written_number : (form : List ℕ) (value : ℤ) (token : Token) → IsWritten form token → value_in token ≡ Ok value → IsNumeral form (t.Number value)
+written_number : (form : List ℕ) (value : ℤ) (token : Token) → IsWritten form token → value_in token ≡ Ok value → (whole_of form ≡ Some value) × (fits_128 value ≡ true)
 written_number form value (t.Word word) written e = absurd cc
-written_number form value (t.Number z) written e = let same : z ≡ value = cc in subst (λ n. IsNumeral form (t.Number n)) same written
+written_number form value (t.Number z) written e = let same : z ≡ value = cc in subst (λ n. (whole_of form ≡ Some n) × (fits_128 n ≡ true)) same written
 written_number form value t.Large written e = absurd cc
+written_number form value (t.Text word) written e = absurd cc
 written_number form value (t.Sign s) written e = absurd cc
 
-written_large : (form : List ℕ) (token : Token) → IsWritten form token → value_in token ≡ Err kind.Literal → IsNumeral form t.Large
+written_large : (form : List ℕ) (token : Token) → IsWritten form token → value_in token ≡ Err kind.Literal → (value : ℤ) × (whole_of form ≡ Some value) × (fits_128 value ≡ false)
 written_large form (t.Word word) written e = absurd cc
 written_large form (t.Number z) written e = absurd cc
 written_large form t.Large written e = written
+written_large form (t.Text word) written e = absurd cc
 written_large form (t.Sign s) written e = absurd cc
-
-number_value : (v value : ℤ) → number v ≡ t.Number value → (v ≡ value) × (fits_128 v ≡ true)
-number_value v value e =
-    elim (chosen (fits_128 v) (t.Number v) t.Large (t.Number value) e) [
-      | inl h ↦ (cc, h.0)
-      | inr h ↦ absurd cc
-    ]
-
-number_large : (v : ℤ) → number v ≡ t.Large → fits_128 v ≡ false
-number_large v e =
-    elim (chosen (fits_128 v) (t.Number v) t.Large t.Large e) [
-      | inl h ↦ absurd cc
-      | inr h ↦ h.0
-    ]
 
 -- the pieces of a text with three tokens
 record IsOfThree (text name numeral : List ℕ) : Type 0 where
@@ -92,14 +82,14 @@ record IsOfThree (text name numeral : List ℕ) : Type 0 where
   all_blank : list_all is_blank (before ++ (left ++ (right ++ after))) ≡ true
   named : column_name word ≡ Some name
 
-third_form : (text : List ℕ) (a b c : Token) → Divides text (a ∷ b ∷ c ∷ []) → List ℕ
+third_form : (text : List ℕ) (a b c : Token) → Spells text (a ∷ b ∷ c ∷ []) → List ℕ
 third_form text a b c d = d.1.1.1.1.1.0.form
 
-third_written : (text : List ℕ) (a b c : Token) (d : Divides text (a ∷ b ∷ c ∷ [])) → IsWritten (third_form text a b c d) c
+third_written : (text : List ℕ) (a b c : Token) (d : Spells text (a ∷ b ∷ c ∷ [])) → IsWritten (third_form text a b c d) c
 unfolding third_form
 third_written text a b c d = d.1.1.1.1.1.0.written
 
-pieces : (text : List ℕ) (a b c : Token) (name : List ℕ) (d : Divides text (a ∷ b ∷ c ∷ [])) → name_in a ≡ Some name → is_less_sign b ≡ true → IsOfThree text name (third_form text a b c d)
+pieces : (text : List ℕ) (a b c : Token) (name : List ℕ) (d : Spells text (a ∷ b ∷ c ∷ [])) → name_in a ≡ Some name → is_less_sign b ≡ true → IsOfThree text name (third_form text a b c d)
 unfolding third_form
 pieces text a b c name d named less =
     let first = d.1.0 in
@@ -141,9 +131,10 @@ compared_unknown (Some m) false token name e = absurd cc
 compared_unknown (Some m) true (t.Word word) name e = absurd cc
 compared_unknown (Some m) true (t.Number z) name e = absurd cc
 compared_unknown (Some m) true t.Large name e = absurd cc
+compared_unknown (Some m) true (t.Text word) name e = absurd cc
 compared_unknown (Some m) true (t.Sign s) name e = absurd cc
 
-spelled_by : (text : List ℕ) (ts : List Token) (c : Clause) → Divides text ts → clause_of ts ≡ Ok c → Spells c text
+spelled_by : (text : List ℕ) (ts : List Token) (c : Clause) → Spells text ts → clause_of ts ≡ Ok c → SpellsClause c text
 unfolding clause_of
 spelled_by text [] c d e = absurd cc
 spelled_by text (a ∷ []) c d e = absurd cc
@@ -152,12 +143,9 @@ spelled_by text (a ∷ b ∷ l ∷ m ∷ more) c d e = absurd cc
 spelled_by text (a ∷ b ∷ l ∷ []) c d e =
     let h = compared_ok (name_in a) (is_less_sign b) (value_in l) c e in
     let numeral = written_number (third_form text a b l d) h.1 l (third_written text a b l d) h.4 in
-    let value = number_value numeral.0 h.1 numeral.1.1 in
-    let whole = numeral.1.0 ∙ ap Some value.0 in
-    let fits : fits_128 h.1 ≡ true = ap fits_128 (sym value.0) ∙ value.1 in
-    (h.0, h.1, sym h.5, with_value text h.0 (third_form text a b l d) h.1 (pieces text a b l h.0 d h.2 h.3) whole, fits)
+    (h.0, h.1, sym h.5, with_value text h.0 (third_form text a b l d) h.1 (pieces text a b l h.0 d h.2 h.3) numeral.0, numeral.1)
 
-literal_by : (text : List ℕ) (ts : List Token) → Divides text ts → clause_of ts ≡ Err kind.Literal → IsRefusedFor kind.Literal text
+literal_by : (text : List ℕ) (ts : List Token) → Spells text ts → clause_of ts ≡ Err kind.Literal → IsRefusedFor kind.Literal text
 unfolding clause_of
 literal_by text [] d e = absurd cc
 literal_by text (a ∷ []) d e = absurd cc
@@ -166,7 +154,7 @@ literal_by text (a ∷ b ∷ l ∷ m ∷ more) d e = absurd cc
 literal_by text (a ∷ b ∷ l ∷ []) d e =
     let h = compared_literal (name_in a) (is_less_sign b) (value_in l) e in
     let numeral = written_large (third_form text a b l d) l (third_written text a b l d) h.3 in
-    (h.0, numeral.0, with_value text h.0 (third_form text a b l d) numeral.0 (pieces text a b l h.0 d h.1 h.2) numeral.1.0, number_large numeral.0 numeral.1.1)
+    (h.0, numeral.0, with_value text h.0 (third_form text a b l d) numeral.0 (pieces text a b l h.0 d h.1 h.2) numeral.1, numeral.2)
 
 unknown_by : (ts : List Token) (name : List ℕ) → clause_of ts ≡ Err (kind.Unknown name) → ⊥
 unfolding clause_of
@@ -178,17 +166,17 @@ unknown_by (a ∷ b ∷ l ∷ []) name e = compared_unknown (name_in a) (is_less
 
 -- ---- the whole text
 
-read_by : (text : List ℕ) (found : Option (List Token)) (c : Clause) → tokens_of text ≡ found → clause_by found ≡ Ok c → Spells c text
+read_by : (text : List ℕ) (found : Option (List Token)) (c : Clause) → tokens_of text ≡ found → clause_by found ≡ Ok c → SpellsClause c text
 read_by text None c is e = absurd cc
-read_by text (Some ts) c is e = spelled_by text ts c (tokens_of-divided text ts is) e
+read_by text (Some ts) c is e = spelled_by text ts c (tokens_of-spelled text ts is) e
 
-pub read_where-ok : (text : List ℕ) (c : Clause) → read_where text ≡ Ok c → Spells c text
+pub read_where-ok : (text : List ℕ) (c : Clause) → read_where text ≡ Ok c → SpellsClause c text
 unfolding read_where
 read_where-ok text c e = read_by text (tokens_of text) c refl e
 
 literal_read_by : (text : List ℕ) (found : Option (List Token)) → tokens_of text ≡ found → clause_by found ≡ Err kind.Literal → IsRefusedFor kind.Literal text
 literal_read_by text None is e = absurd cc
-literal_read_by text (Some ts) is e = literal_by text ts (tokens_of-divided text ts is) e
+literal_read_by text (Some ts) is e = literal_by text ts (tokens_of-spelled text ts is) e
 
 unknown_read_by : (found : Option (List Token)) (name : List ℕ) → clause_by found ≡ Err (kind.Unknown name) → ⊥
 unknown_read_by None name e = absurd cc
@@ -209,7 +197,7 @@ read_where-refused text (kind.Unknown name) e = unknown_read_by (tokens_of text)
 
 -- ---- an answer of the call
 
-pub gives_found : (text : List ℕ) (r : Result Clause ClauseFault) → Gives r (read_where text) → IfOk r (λ c. Spells c text)
+pub gives_found : (text : List ℕ) (r : Result Clause ClauseFault) → Gives r (read_where text) → IfOk r (λ c. SpellsClause c text)
 gives_found text (Ok c) gives = read_where-ok text c gives
 gives_found text (Err e) gives = tt
 

@@ -5,7 +5,9 @@ pub mod Boundaries
 pub mod Shorter
 pub mod Lexing
 pub mod Cuts
-pub mod Divided
+pub mod Spelled
+pub mod Quotes
+pub mod Signs
 pub mod Reread
 pub mod Laws
 pub mod Parts

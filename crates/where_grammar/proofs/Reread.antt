@@ -1,6 +1,6 @@
--- The tokens of a name, `<` and a number.
-use Rattle.std.proofs.Common.{◌≡◌, ℕ, ◌<◌, Bool, true, false, cond, List, [], ◌∷◌, ◌++◌, length, take, drop, refl, sym, ap, subst, ◌∙◌, eqb, eqb-true, inl, inr, arith, ℤ, pos, neg_ℤ}
-use Rattle.std.specs.Prelude.{Some, None, ◌||◌}
+-- The tokens that a text spells are those that the function gives.
+use Rattle.std.proofs.Common.{◌≡◌, append_assoc, ℕ, ◌<◌, Bool, true, false, cond, List, [], ◌∷◌, ◌++◌, length, take, drop, refl, sym, ap, subst, ◌∙◌, eqb, eqb-true, inl, inr, arith, ℤ, pos, neg_ℤ}
+use Rattle.std.specs.Prelude.{Option, Some, None, is_some}
 use Rattle.std.specs.Option.{option_map}
 use Rattle.std.specs.List.{prefix_len, list_all}
 use Rattle.std.specs.Char.{is_ascii_digit, to_ascii_lowercase}
@@ -11,15 +11,18 @@ use Rattle.std.proofs.lemmas.Bool.Decides.{nat_tests}
 use Rattle.fb_types.specs.Field.{natural_of, whole_of}
 use Rattle.fb_types.specs.Names.{begins_name, continues_name, has_name_bytes, is_column_name, column_name}
 use Rattle.where_grammar.specs.declared.clause.Op.TheVariants as op
+use Rattle.where_grammar.specs.declared.token.Sign.{Sign}
 use Rattle.where_grammar.specs.declared.token.Sign.TheVariants as sign
 use Rattle.where_grammar.specs.declared.token.Token.{Token}
 use Rattle.where_grammar.specs.declared.token.Token.TheVariants as t
-use Rattle.where_grammar.specs.Tokens.{is_blank, begins_word, in_word, number, signed, word_at, number_at, double_sign, sign_at, token_at, tokens_of}
+use Rattle.where_grammar.specs.Tokens.{is_quote, doubled, IsQuoted, is_first, text_at, is_blank, begins_word, in_word, fits_128, double_sign, single_sign, is_word, sign_of, IsWritten, goes_on, StopsAt, Spells, number, signed, word_at, number_at, sign_at, token_at, tokens_of}
 use Rattle.where_grammar.specs.Language.{IsLessThan}
 use Rattle.where_grammar.proofs.Cases.{chosen, mapped}
-use Rattle.where_grammar.proofs.Runs.{StopsAt, prefix_len-cut, and_parts, none_of, all_append}
+use Rattle.where_grammar.proofs.Runs.{prefix_len-cut, and_parts, all_append}
 use Rattle.where_grammar.proofs.Lexing.{tokens_of-blank, tokens_of-some, tokens_of-empty}
+use Rattle.where_grammar.proofs.Quotes.{unquoted_again}
 use Rattle.where_grammar.proofs.Cuts.{no_minus, no_plus}
+use Rattle.where_grammar.proofs.Signs.{BeginsSign, single_begins, double_begins}
 
 -- the token is read at the front, where no blank stands
 record Reads (text : List ℕ) (token : Token) (rest : List ℕ) : Type 0 where
@@ -170,22 +173,82 @@ number_reads (b ∷ bs) rest v e stops =
       | inr h ↦ behind_plus b bs rest v (eqb b 43) refl h.1 stops
     ]
 
--- ---- the sign
+-- ---- signs
 
-abbrev pub goes_on_less : ℕ → Bool
-goes_on_less b = eqb b 61 || eqb b 62
+none_from : {A : Type 0} (o : Option A) → is_some o ≡ false → o ≡ None
+none_from None e = refl
+none_from (Some x) e = absurd cc
 
-less_double : (b : ℕ) → goes_on_less b ≡ false → double_sign 60 b ≡ None
-less_double b e = let parts = none_of (eqb b 61) (eqb b 62) e in rw (parts.0, parts.1) refl
-
-less_found : (rest : List ℕ) → StopsAt goes_on_less rest → sign_at (60 ∷ rest) ≡ Some (t.Sign (sign.Op op.Less), rest)
+single_found : (a : ℕ) (s : Sign) (rest : List ℕ) → single_sign a ≡ Some s → StopsAt (goes_on (a ∷ []) (t.Sign s)) rest → sign_at (a ∷ rest) ≡ Some (t.Sign s, rest)
 unfolding sign_at
-less_found [] stops = refl
-less_found (b ∷ bs) stops = rw (less_double b stops) refl
+single_found a s [] e stops = rw e refl
+single_found a s (c ∷ cs) e stops = let none : double_sign a c ≡ None = none_from (double_sign a c) stops in rw (none, e) refl
 
-less_reads : (rest : List ℕ) → StopsAt goes_on_less rest → Reads (60 ∷ rest) (t.Sign (sign.Op op.Less)) rest
+double_found : (a b : ℕ) (s : Sign) (rest : List ℕ) → double_sign a b ≡ Some s → sign_at (a ∷ b ∷ rest) ≡ Some (t.Sign s, rest)
+unfolding sign_at
+double_found a b s rest e = rw e refl
+
+sign_reads : (a : ℕ) (others : List ℕ) (s : Sign) (rest : List ℕ) → BeginsSign a → sign_at (a ∷ others) ≡ Some (t.Sign s, rest) → Reads (a ∷ others) (t.Sign s) rest
 unfolding token_at
-less_reads rest stops = record { first = 60; others = rest; cons = refl; visible = refl; found = less_found rest stops }
+sign_reads a others s rest f e =
+    let no_minus : eqb a 45 ≡ false = f.no_minus in
+    let no_plus : eqb a 43 ≡ false = f.no_plus in
+    let no_digit : is_ascii_digit a ≡ false = f.no_digit in
+    let no_word : begins_word a ≡ false = f.no_word in
+    let no_quote : is_quote a ≡ false = f.no_quote in
+    record { first = a; others = others; cons = refl; visible = f.visible; found = rw (no_minus, no_plus, no_digit, no_word, no_quote) e }
+
+signs_read : (form rest : List ℕ) (s : Sign) → sign_of form ≡ Some s → StopsAt (goes_on form (t.Sign s)) rest → Reads (form ++ rest) (t.Sign s) rest
+signs_read [] rest s e stops = absurd cc
+signs_read (a ∷ []) rest s e stops = sign_reads a rest s rest (single_begins a s e) (single_found a s rest e stops)
+signs_read (a ∷ b ∷ []) rest s e stops = sign_reads a (b ∷ rest) s rest (double_begins a b s e) (double_found a b s rest e)
+signs_read (a ∷ b ∷ c ∷ bs) rest s e stops = absurd cc
+
+-- ---- texts
+
+record QuoteFacts (b : ℕ) : Type 0 where
+  visible : is_blank b ≡ false
+  no_minus : eqb b 45 ≡ false
+  no_plus : eqb b 43 ≡ false
+  no_digit : is_ascii_digit b ≡ false
+  no_word : begins_word b ≡ false
+
+quote_facts : (b : ℕ) → is_quote b ≡ true → QuoteFacts b
+quote_facts b e = record { visible = grind (arith, nat_tests); no_minus = grind (arith, nat_tests); no_plus = grind (arith, nat_tests); no_digit = grind (arith, nat_tests); no_word = grind (arith, nat_tests) }
+
+text_again : (quote : ℕ) (word rest : List ℕ) → StopsAt (λ b. eqb b quote) rest → text_at quote (doubled quote word ++ (quote ∷ rest)) ≡ Some (t.Text word, rest)
+unfolding text_at
+text_again quote word rest stops = ap (option_map (λ f. (t.Text f.0, f.1))) (unquoted_again quote word rest stops)
+
+quoted_reads : (quote : ℕ) (word rest : List ℕ) → is_quote quote ≡ true → StopsAt (λ b. eqb b quote) rest → Reads (quote ∷ (doubled quote word ++ (quote ∷ rest))) (t.Text word) rest
+unfolding token_at
+quoted_reads quote word rest is stops =
+    let f = quote_facts quote is in
+    let no_minus : eqb quote 45 ≡ false = f.no_minus in
+    let no_plus : eqb quote 43 ≡ false = f.no_plus in
+    let no_digit : is_ascii_digit quote ≡ false = f.no_digit in
+    let no_word : begins_word quote ≡ false = f.no_word in
+    record { first = quote; others = doubled quote word ++ (quote ∷ rest); cons = refl; visible = f.visible; found = rw (no_minus, no_plus, no_digit, no_word, is) (text_again quote word rest stops) }
+
+texts_read : (form rest word : List ℕ) → IsQuoted form word → StopsAt (is_first form) rest → Reads (form ++ rest) (t.Text word) rest
+texts_read form rest word is stops =
+    let stops_at : StopsAt (λ b. eqb b is.quote) rest = subst (λ xs. StopsAt (is_first xs) rest) is.cut stops in
+    let joined : is.quote ∷ (doubled is.quote word ++ (is.quote ∷ rest)) ≡ form ++ rest =
+    ap (λ xs. is.quote ∷ xs) (sym (append_assoc (doubled is.quote word) (is.quote ∷ []) rest)) ∙ ap (λ xs. xs ++ rest) (sym is.cut) in
+    subst (λ xs. Reads xs (t.Text word) rest) joined (quoted_reads is.quote word rest is.is_one stops_at)
+
+-- ---- every token
+
+words_read : (form rest : List ℕ) → is_word form ≡ true → StopsAt in_word rest → Reads (form ++ rest) (t.Word (str_to_ascii_lowercase form)) rest
+words_read [] rest e stops = absurd cc
+words_read (b ∷ bs) rest e stops = let parts = and_parts (begins_word b) (list_all in_word bs) e in word_reads b bs rest parts.0 parts.1 stops
+
+token_reads : (token : Token) (form rest : List ℕ) → IsWritten form token → StopsAt (goes_on form token) rest → Reads (form ++ rest) token rest
+token_reads (t.Word word) form rest written stops = subst (λ w. Reads (form ++ rest) (t.Word w) rest) (sym written.1) (words_read form rest written.0 stops)
+token_reads (t.Number z) form rest written stops = let fits : fits_128 z ≡ true = written.1 in subst (λ token. Reads (form ++ rest) token rest) (rw fits refl) (number_reads form rest z written.0 stops)
+token_reads t.Large form rest written stops = let large : fits_128 written.0 ≡ false = written.2 in subst (λ token. Reads (form ++ rest) token rest) (rw large refl) (number_reads form rest written.0 written.1 stops)
+token_reads (t.Text word) form rest written stops = texts_read form rest word written stops
+token_reads (t.Sign s) form rest written stops = signs_read form rest s written stops
 
 -- ---- where tokens end
 
@@ -202,6 +265,9 @@ blank_no_word b e = grind (arith, nat_tests)
 
 blank_no_digit : (b : ℕ) → is_blank b ≡ true → is_ascii_digit b ≡ false
 blank_no_digit b e = grind (arith, nat_tests)
+
+abbrev goes_on_less : ℕ → Bool
+goes_on_less = goes_on (60 ∷ []) (t.Sign (sign.Op op.Less))
 
 blank_no_sign : (b : ℕ) → is_blank b ≡ true → goes_on_less b ≡ false
 blank_no_sign b e = grind (arith, nat_tests)
@@ -261,8 +327,14 @@ three_tokens text name value is =
     let third = one_by_one is.right (is.numeral ++ is.after) is.after (number value) [] back.0 (number_reads is.numeral is.after value is.written (blanks_stop is.after back.1)) (all_blank is.after back.1) in
     let behind = is.right ++ (is.numeral ++ is.after) in
     let less_stops = behind_blanks goes_on_less (is.numeral ++ is.after) blank_no_sign (number_stops is.numeral is.after value is.written) is.right back.0 in
-    let second = one_by_one is.left (60 ∷ behind) behind (t.Sign (sign.Op op.Less)) (number value ∷ []) middle.0 (less_reads behind less_stops) third in
+    let second = one_by_one is.left (60 ∷ behind) behind (t.Sign (sign.Op op.Less)) (number value ∷ []) middle.0 (token_reads (t.Sign (sign.Op op.Less)) (60 ∷ []) behind refl less_stops) third in
     let rest = is.left ++ (60 ∷ behind) in
     let word_stops = behind_blanks in_word (60 ∷ behind) blank_no_word refl is.left middle.0 in
     let first = one_by_one is.before (is.word ++ rest) rest (t.Word (str_to_ascii_lowercase is.word)) (t.Sign (sign.Op op.Less) ∷ number value ∷ []) front.0 (name_reads is.word rest name (has_shape is.word name is.named) word_stops) second in
     ap tokens_of is.cut ∙ first
+
+pub spelled-tokens_of : (text : List ℕ) (ts : List Token) → Spells text ts → tokens_of text ≡ Some ts
+spelled-tokens_of text [] spells = all_blank text spells
+spelled-tokens_of text (token ∷ ts) spells =
+    let at = spells.1.0 in
+    ap tokens_of at.cut ∙ one_by_one at.blanks (at.form ++ spells.0) spells.0 token ts at.all_blank (token_reads token at.form spells.0 at.written at.ends) (spelled-tokens_of spells.0 ts spells.1.1)

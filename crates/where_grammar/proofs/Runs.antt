@@ -1,11 +1,7 @@
 -- The longest front whose elements pass a test.
-use Rattle.std.proofs.Common.{◌≡◌, ℕ, suc, ◌+◌, Bool, true, false, cond, ◌&&◌, ◌||◌, List, [], ◌∷◌, ◌++◌, length, take, drop, refl, arith}
+use Rattle.std.proofs.Common.{◌≡◌, ℕ, suc, ◌+◌, Bool, true, false, cond, ◌&&◌, List, [], ◌∷◌, ◌++◌, length, take, drop, refl, arith}
 use Rattle.std.specs.List.{prefix_len, list_all}
-
--- no byte at the front goes on with what stands before
-abbrev pub StopsAt : (ℕ → Bool) → List ℕ → Type 0
-StopsAt goes_on [] = Unit {0}
-StopsAt goes_on (b ∷ bs) = goes_on b ≡ false
+use Rattle.where_grammar.specs.Tokens.{StopsAt}
 
 at_test : (p : ℕ → Bool) (b : ℕ) (bs : List ℕ) (test : Bool) → p b ≡ test → (list_all p bs ≡ true → list_all p (b ∷ bs) ≡ test)
 at_test p b bs true e all = rw (e, all) refl
@@ -18,10 +14,6 @@ and_parts false y e = cc
 
 pub and_both : (x y : Bool) → x ≡ true → y ≡ true → (x && y) ≡ true
 and_both x y e f = rw (e, f) refl
-
-pub none_of : (x y : Bool) → (x || y) ≡ false → (x ≡ false) × (y ≡ false)
-none_of true y e = absurd cc
-none_of false y e = (refl, e)
 
 -- what holds of each element of a list holds of each of both parts
 pub all_append : (p : ℕ → Bool) (xs ys : List ℕ) → list_all p (xs ++ ys) ≡ true → (list_all p xs ≡ true) × (list_all p ys ≡ true)

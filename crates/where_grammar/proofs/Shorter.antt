@@ -1,5 +1,5 @@
 -- A token has at least one byte.
-use Rattle.std.proofs.Common.{◌≡◌, ℕ, ◌-◌, ◌≤◌, ◌<◌, Bool, true, false, cond, List, [], ◌∷◌, length, take, drop, ap, arith, eqb, length-drop, inl, inr}
+use Rattle.std.proofs.Common.{◌≡◌, ℕ, ◌+◌, ◌-◌, ◌≤◌, ◌<◌, Bool, true, false, cond, List, [], ◌∷◌, ◌++◌, length, length-append, take, drop, ap, arith, eqb, length-drop, inl, inr}
 use Rattle.std.specs.Prelude.{Option, Some, None}
 use Rattle.std.specs.List.{prefix_len}
 use Rattle.std.specs.Char.{is_ascii_digit}
@@ -10,7 +10,8 @@ use Rattle.std.proofs.lemmas.Bool.Decides.{nat_tests}
 use Rattle.where_grammar.specs.declared.token.Sign.{Sign}
 use Rattle.where_grammar.specs.declared.token.Token.{Token}
 use Rattle.where_grammar.specs.declared.token.Token.TheVariants as t
-use Rattle.where_grammar.specs.Tokens.{begins_word, in_word, double_sign, single_sign, single_before, longest, number, signed, word_at, number_at, sign_at, token_at}
+use Rattle.where_grammar.specs.Tokens.{is_quote, doubled, unquoted, text_at, begins_word, in_word, double_sign, single_sign, single_before, longest, number, signed, word_at, number_at, sign_at, token_at}
+use Rattle.where_grammar.proofs.Quotes.{unquoted_cuts}
 use Rattle.where_grammar.proofs.Cases.{chosen, guarded, mapped}
 
 dropped_less : (n : ℕ) (text rest : List ℕ) → eqb n 0 ≡ false → n ≤ length text → drop n text ≡ rest → length rest < length text
@@ -55,11 +56,26 @@ sign_at_shorter [] found e = cc
 sign_at_shorter (a ∷ []) found e = single_shorter a [] found e
 sign_at_shorter (a ∷ b ∷ rest) found e = longest_shorter (double_sign a b) a b rest found e
 
+unquoted_shorter : (quote : ℕ) (text : List ℕ) (found : List ℕ × List ℕ) → unquoted quote text ≡ Some found → length found.1 < length text
+unquoted_shorter quote text found e =
+    let same : length text ≡ length (doubled quote found.0 ++ (quote ∷ found.1)) = ap length (unquoted_cuts quote text found e).0 in
+    let parts : length (doubled quote found.0 ++ (quote ∷ found.1)) ≡ length (doubled quote found.0) + length (quote ∷ found.1) = length-append (doubled quote found.0) (quote ∷ found.1) in
+    omega arith
+
+text_at_shorter : (quote : ℕ) (text : List ℕ) (found : Token × List ℕ) → text_at quote text ≡ Some found → length found.1 < length text
+unfolding text_at
+text_at_shorter quote text found e =
+    let h = mapped (λ f. (t.Text f.0, f.1)) (unquoted quote text) found e in
+    let same : length h.0.1 ≡ length found.1 = ap (λ f. length f.1) h.1.1 in
+    let shorter = unquoted_shorter quote text h.0 h.1.0 in
+    omega arith
+
 pub token_at_shorter : (text : List ℕ) (found : Token × List ℕ) → token_at text ≡ Some found → length found.1 < length text
 unfolding token_at
 token_at_shorter [] found e = cc
 token_at_shorter (b ∷ bs) found e =
-    let sign : Option (Token × List ℕ) = sign_at (b ∷ bs) in
+    let text : Option (Token × List ℕ) = text_at b bs in
+    let sign : Option (Token × List ℕ) = cond (is_quote b) text (sign_at (b ∷ bs)) in
     let word : Option (Token × List ℕ) = Some (word_at (b ∷ bs)) in
     let digits : Option (Token × List ℕ) = number_at false (b ∷ bs) in
     let plus : Option (Token × List ℕ) = number_at false bs in
@@ -72,7 +88,10 @@ token_at_shorter (b ∷ bs) found e =
           | inl f ↦ number_at_shorter false (b ∷ bs) found f.1
           | inr f ↦ elim (chosen (begins_word b) word sign (Some found) f.1) [
             | inl k ↦ word_at_shorter b bs found k.0 k.1
-            | inr k ↦ sign_at_shorter (b ∷ bs) found k.1
+            | inr k ↦ elim (chosen (is_quote b) text (sign_at (b ∷ bs)) (Some found) k.1) [
+              | inl l ↦ (let s = text_at_shorter b bs found l.1 in omega arith)
+              | inr l ↦ sign_at_shorter (b ∷ bs) found l.1
+            ]
           ]
         ]
       ]

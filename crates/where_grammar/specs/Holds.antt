@@ -51,16 +51,16 @@ compares op.Equal number limit = int_eq number limit
 compares op.Differs number limit = not (int_eq number limit)
 
 -- the column that a condition speaks of
-abbrev pub name_in : Atom → List ℕ
-name_in (atom.Compare name by value) = name
-name_in (atom.Double name left low right high) = name
-name_in (atom.Between name low high) = name
-name_in (atom.Numbers name list) = name
-name_in (atom.Same name text) = name
-name_in (atom.Other name text) = name
-name_in (atom.Texts name list) = name
-name_in (atom.Like name pattern) = name
-name_in (atom.Exists name) = name
+abbrev pub column_of : Atom → List ℕ
+column_of (atom.Compare name by value) = name
+column_of (atom.Double name left low right high) = name
+column_of (atom.Between name low high) = name
+column_of (atom.Numbers name list) = name
+column_of (atom.Same name text) = name
+column_of (atom.Other name text) = name
+column_of (atom.Texts name list) = name
+column_of (atom.Like name pattern) = name
+column_of (atom.Exists name) = name
 
 -- the truth of a condition on the cell of its column; on a null cell each is false
 abbrev pub is_met : Atom → Cell → Bool
@@ -75,7 +75,7 @@ is_met (atom.Like name pattern) = word_passes (like pattern)
 is_met (atom.Exists name) = is_there
 
 abbrev pub atom_holds : Atom → List Column → List Cell → Bool
-atom_holds condition columns cells = is_met condition (cell_named columns cells (name_in condition))
+atom_holds condition columns cells = is_met condition (cell_named columns cells (column_of condition))
 
 -- ---- clauses
 

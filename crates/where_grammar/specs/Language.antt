@@ -42,8 +42,8 @@ abbrev pub limited : List ℕ → ℤ → Result Clause QueryKind
 limited name value = if fits_128 value then Ok (less_than name value) else Err kind.Literal
 
 -- the text spells the clause
-abbrev pub Spells : Clause → List ℕ → Type 0
-Spells c text = (name : List ℕ) × (value : ℤ) × (c ≡ less_than name value) × IsLessThan name value text × (fits_128 value ≡ true)
+abbrev pub SpellsClause : Clause → List ℕ → Type 0
+SpellsClause c text = (name : List ℕ) × (value : ℤ) × (c ≡ less_than name value) × IsLessThan name value text × (fits_128 value ≡ true)
 
 -- the text has no clause for this reason
 abbrev pub IsRefusedFor : QueryKind → List ℕ → Type 0
@@ -57,6 +57,7 @@ abbrev pub name_in : Token → Option (List ℕ)
 name_in (t.Word word) = column_name word
 name_in (t.Number value) = None
 name_in t.Large = None
+name_in (t.Text word) = None
 name_in (t.Sign s) = None
 
 abbrev pub is_less : Sign → Bool
@@ -67,12 +68,14 @@ abbrev pub is_less_sign : Token → Bool
 is_less_sign (t.Word word) = false
 is_less_sign (t.Number value) = false
 is_less_sign t.Large = false
+is_less_sign (t.Text word) = false
 is_less_sign (t.Sign s) = is_less s
 
 abbrev pub value_in : Token → Result ℤ QueryKind
 value_in (t.Word word) = Err kind.Syntax
 value_in (t.Number value) = Ok value
 value_in t.Large = Err kind.Literal
+value_in (t.Text word) = Err kind.Syntax
 value_in (t.Sign s) = Err kind.Syntax
 
 abbrev pub compared : Option (List ℕ) → Bool → Result ℤ QueryKind → Result Clause QueryKind

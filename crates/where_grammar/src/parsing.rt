@@ -2,7 +2,7 @@
 
 ghost use Rattle.std.specs.Prelude.{◌≡◌, ℕ, ℤ, List, Err, IfOk, IfErr};
 ghost use Rattle.std.specs.Option.{option_map};
-ghost use Rattle.where_grammar.specs.Language.{Gives, IsFaultOf, IsLessThan, Spells, after_where, clause_of, limited, read_where};
+ghost use Rattle.where_grammar.specs.Language.{Gives, IsFaultOf, IsLessThan, SpellsClause, after_where, clause_of, limited, read_where};
 
 use crate::clause::{Atom, Clause, ClauseFault, Op, QueryKind};
 use crate::token::{Sign, Token, blanks_len, tokens, word_len};
@@ -55,7 +55,7 @@ fn parsed(alloc: Global, text: &str) -> Result<Clause, ClauseFault>
 /// in either case, and a number of signed 128 bits, with blanks between, before and after.
 pub fn parse_where(alloc: Global, text: &str) -> Result<Clause, ClauseFault>
     // What is read is spelled so, and what is spelled so is read.
-    ensures found { IfOk result (λ c. Spells c text.now) }
+    ensures found { IfOk result (λ c. SpellsClause c text.now) }
     ensures only { (name : List ℕ) (value : ℤ) → IsLessThan name value text.now → Gives result (limited name value) }
 
     // `Literal` where the number is outside, `Syntax` where the text isn't of this form.

@@ -1,4 +1,6 @@
+use crate::token::{Token, tokens};
 use crate::{Atom, Clause, ClauseFault, Op, QueryKind, after_where, parse_where};
+use fb_types::Label;
 use std::alloc::{AllocError, Global};
 use std::test::Fail;
 
@@ -141,4 +143,63 @@ fn finds_what_follows_where(rt: HostRuntime) {
     ] {
         assert_eq!(rt; after_where(text), want);
     }
+}
+
+fn push_text(shown: &mut String, text: &Label) -> Result<(), AllocError> {
+    match std::str::from_utf8(text.bytes()) {
+        Ok(text) => shown.push_str(text),
+        Err(_) => shown.push_str("no text"),
+    }
+}
+
+/// The tokens, with a blank behind each, and texts in brackets.
+fn shown(alloc: Global, text: &str) -> Result<String, AllocError> {
+    let mut shown = String::new(alloc);
+    let Some(found) = tokens(alloc, text.as_bytes())? else {
+        return String::from_str(alloc, "none");
+    };
+    for token in found.as_slice() {
+        match token {
+            Token::Word(word) => push_text(&mut shown, word)?,
+            Token::Number(value) => shown.push_str(format!(in alloc; "{value}")?.as_str())?,
+            Token::Large => shown.push_str("large")?,
+            Token::Text(text) => {
+                shown.push_str("[")?;
+                push_text(&mut shown, text)?;
+                shown.push_str("]")?;
+            }
+            Token::Sign(sign) => shown.push_str(format!(in alloc; "{sign:?}")?.as_str())?,
+        }
+        shown.push_str(" ")?;
+    }
+    Ok(shown)
+}
+
+#[test]
+fn parts_texts_into_tokens(rt: HostRuntime) -> Result<(), Fail> {
+    for (text, want) in [
+        ("", ""),
+        ("a<5", "a Op(Less) 5 "),
+        ("A_1 +5-3 5x", "a_1 5 -3 5 x "),
+        (
+            "<=>=<>!==<==",
+            "Op(LessEq) Op(GreaterEq) Op(Differs) Op(Differs) Op(Equal) Op(LessEq) Op(Equal) ",
+        ),
+        ("&&||!(),*", "And Or Not Open Close Comma Star "),
+        ("\"a\"\"b\"'c''d'''", "[a\"b] [c'd'] "),
+        ("\"it's\" ''", "[it's] [] "),
+        ("\"é\"", "[é] "),
+        ("\"open", "none"),
+        ("'it''s", "none"),
+        ("a & b", "none"),
+        ("a | b", "none"),
+        ("- 3", "none"),
+        ("+", "none"),
+        ("a # b", "none"),
+        ("é", "none"),
+    ] {
+        let found = shown(rt.alloc(), text)?;
+        assert!(rt; found.as_str() == want, "{text}");
+    }
+    Ok(())
 }

@@ -1,12 +1,13 @@
 //! The tokens of a query's text.
 
-ghost use Rattle.std.specs.Prelude.{◌≡◌, ◌≤◌, ◌^◌, ◌-◌, true, length, min, IfOk};
+ghost use Rattle.std.specs.Prelude.{◌≡◌, ◌≤◌, ◌^◌, ◌-◌, true, List, length, min, Some, IfOk, IfSome};
 ghost use Rattle.std.specs.Option.{option_map};
 ghost use Rattle.std.specs.List.{prefix_len, list_all};
 ghost use Rattle.std.specs.Char.{is_ascii_digit};
 ghost use Rattle.std.specs.Str.{str_to_ascii_lowercase};
 ghost use Rattle.std.specs.Str.Parse.{digits_value};
-ghost use Rattle.where_grammar.specs.Tokens.{begins_word, double_sign, in_word, is_blank, number, number_at, sign_at, signed, single_sign, token_at, tokens_of, word_at};
+ghost use Rattle.where_grammar.specs.declared.token.Token.{Token};
+ghost use Rattle.where_grammar.specs.Tokens.{Spells, begins_word, double_sign, in_word, is_blank, number, number_at, sign_at, signed, single_sign, text_at, token_at, tokens_of, word_at};
 
 use crate::clause::Op;
 use fb_types::Label;
@@ -34,6 +35,8 @@ pub(crate) enum Token {
     Number(i128),
     /// A number outside signed 128 bits.
     Large,
+    /// What stands between two quotes.
+    Text(Label),
     Sign(Sign),
 }
 
@@ -132,6 +135,27 @@ fn word_at(alloc: Global, text: &[u8]) -> Result<(Token, &[u8]), AllocError>
     Ok((Token::Word(lowered(alloc, front)?), rest))
 }
 
+/// The text up to the quote that ends it, and what follows that; two quotes stand for one.
+#[tactic(auto, unfolding(crate::specs::Tokens::text_at))]
+fn text_at(alloc: Global, quote: u8, text: &[u8]) -> Result<Option<(Token, &[u8])>, AllocError>
+    ensures { IfOk result (λ found. option_map (λ f. (f.0, f.1.now)) found ≡ text_at quote text.now) }
+{
+    let mut word = Vec::new(alloc);
+    let mut rest = text;
+    while !rest.is_empty() {
+        let (first, after) = (rest[0], rest.split_at(1).1);
+        if first != quote {
+            rest = after;
+        } else if !after.is_empty() && after[0] == quote {
+            rest = after.split_at(1).1;
+        } else {
+            return Ok(Some((Token::Text(Label::from_vec(word)), after)));
+        }
+        word.push(first)?;
+    }
+    Ok(None)
+}
+
 fn double_sign(first: u8, second: u8) -> Option<Sign>
     ensures { result ≡ double_sign first second }
 {
@@ -199,13 +223,14 @@ fn token_at(alloc: Global, text: &[u8]) -> Result<Option<(Token, &[u8])>, AllocE
     } else if begins_word(first) {
         let found = word_at(alloc, text)?;
         Ok(Some(found))
+    } else if first == b'"' || first == b'\'' {
+        text_at(alloc, first, text.split_at(1).1)
     } else {
         Ok(sign_at(text))
     }
 }
 
-/// The tokens of a text, None where at some place no token stands.
-pub(crate) fn tokens(alloc: Global, text: &[u8]) -> Result<Option<Items<Token>>, AllocError>
+fn lexed(alloc: Global, text: &[u8]) -> Result<Option<Items<Token>>, AllocError>
     ensures { IfOk result (λ found. found ≡ tokens_of text.now) }
 {
     let mut tokens = Items::new(alloc);
@@ -224,4 +249,15 @@ pub(crate) fn tokens(alloc: Global, text: &[u8]) -> Result<Option<Items<Token>>,
         }
     }
     Ok(Some(tokens))
+}
+
+/// The tokens of a text, None where at some place no token stands.
+pub(crate) fn tokens(alloc: Global, text: &[u8]) -> Result<Option<Items<Token>>, AllocError>
+    // The tokens given are those that the text spells, and none are given only where it spells none.
+    ensures found { IfOk result (λ found. IfSome found (λ tokens. Spells text.now tokens)) }
+    ensures only { (tokens : List Token) → Spells text.now tokens → IfOk result (λ found. found ≡ Some tokens) }
+
+    ensures exact { IfOk result (λ found. found ≡ tokens_of text.now) }
+{
+    lexed(alloc, text)
 }

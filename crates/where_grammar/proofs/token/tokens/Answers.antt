@@ -1,39 +1,25 @@
-use Rattle.std.proofs.Common.{◌≡◌, ◌<◌, length, sym, ap, ◌∙◌, arith}
-use Rattle.std.specs.Prelude.{Some, None}
-use Rattle.std.proofs.lemmas.Bool.Decides.{nat_tests}
-use Rattle.where_grammar.specs.Tokens.{tokens_of, token_at}
-use Rattle.where_grammar.proofs.Lexing.{before, blank-step, none-step, some-step, all-read, one-more}
-use Rattle.where_grammar.proofs.Shorter.{token_at_shorter}
+use Rattle.std.proofs.Common.{◌≡◌, ℕ, List, sym, ◌∙◌}
+use Rattle.std.specs.Prelude.{Option, Some, None, Result, Ok, Err, IfOk, IfSome}
+use Rattle.where_grammar.specs.declared.token.Token.{Token}
+use Rattle.where_grammar.specs.Tokens.{Spells, tokens_of}
+use Rattle.where_grammar.proofs.Spelled.{tokens_of-spelled}
+use Rattle.where_grammar.proofs.Reread.{spelled-tokens_of}
 use Rattle.where_grammar.proofs.token.tokens.Goals as goal
 
-pub loop-rest-preserved-then-is_blank : goal.loop-rest-preserved-then-is_blank
-loop-rest-preserved-then-is_blank c =
-    let rest = c.loop-rest.rest.now in
-    let some : 0 < length rest = grind (arith, nat_tests) in
-    c.loop-rest.invariant ∙ ap (before c.loop-rest.tokens) (blank-step rest some (sym c.is_blank.ensures ∙ c.if-is_blank.true) ∙ ap tokens_of (sym c.split_at.ensures.back))
+some_spelled : (text : List ℕ) (found : Option (List Token)) → found ≡ tokens_of text → IfSome found (λ ts. Spells text ts)
+some_spelled text None e = tt
+some_spelled text (Some ts) e = tokens_of-spelled text ts (sym e)
 
-pub returns-in-None : goal.returns-in-None
-returns-in-None c =
-    let rest = c.loop-rest.rest.now in
-    let some : 0 < length rest = grind (arith, nat_tests) in
-    let none : token_at rest ≡ None = sym (rw c.in-None.is at c.in_ok-token_at.ensures) in
-    sym (c.loop-rest.invariant ∙ ap (before c.loop-rest.tokens) (none-step rest some (sym c.is_blank.ensures ∙ c.if-is_blank.false) none))
+ok_spelled : {E : Type 0} (text : List ℕ) (r : Result (Option (List Token)) E) → IfOk r (λ found. found ≡ tokens_of text) → IfOk r (λ found. IfSome found (λ ts. Spells text ts))
+ok_spelled text (Ok found) e = some_spelled text found e
+ok_spelled text (Err fault) e = tt
 
-pub loop-rest-smaller : goal.loop-rest-smaller
-loop-rest-smaller c =
-    let rest = c.loop-rest.rest.now in
-    let found : token_at rest ≡ Some (c.in-Some.token, c.in-Some.after.now) = sym (rw c.in-Some.is at c.in_ok-token_at.ensures) in
-    token_at_shorter rest (c.in-Some.token, c.in-Some.after.now) found
+ok_only : {E : Type 0} (text : List ℕ) (ts : List Token) (r : Result (Option (List Token)) E) → IfOk r (λ found. found ≡ tokens_of text) → Spells text ts → IfOk r (λ found. found ≡ Some ts)
+ok_only text ts (Ok found) e spells = e ∙ spelled-tokens_of text ts spells
+ok_only text ts (Err fault) e spells = tt
 
-pub loop-rest-preserved : goal.loop-rest-preserved
-loop-rest-preserved c =
-    let rest = c.loop-rest.rest.now in
-    let some : 0 < length rest = grind (arith, nat_tests) in
-    let found : token_at rest ≡ Some (c.in-Some.token, c.in-Some.after.now) = sym (rw c.in-Some.is at c.in_ok-token_at.ensures) in
-    let step = some-step rest c.in-Some.after.now c.in-Some.token some (sym c.is_blank.ensures ∙ c.if-is_blank.false) found in
-    one-more c.args.text.now rest c.in-Some.after.now c.loop-rest.tokens c.push.new.self c.in-Some.token c.loop-rest.invariant step c.in_ok-push-in-Some.ensures.ok
+pub returns-clause-found : goal.returns-clause-found
+returns-clause-found c = ok_spelled c.args.text.now c.lexed.result c.lexed.ensures
 
-pub returns : goal.returns
-returns c =
-    let done : length c.loop-rest.rest.now ≡ 0 = grind (arith, nat_tests) in
-    all-read c.args.text.now c.loop-rest.rest.now c.loop-rest.tokens c.loop-rest.invariant done
+pub returns-clause-only : goal.returns-clause-only
+returns-clause-only c = λ ts spells. ok_only c.args.text.now ts c.lexed.result c.lexed.ensures spells

@@ -32,7 +32,7 @@ impl Model for Schema {
 }
 
 impl Schema {
-    pub(crate) fn from_columns(columns: Vec<Column>) -> Schema
+    pub fn from_columns(columns: Vec<Column>) -> Schema
         requires { IsSchema columns.items }
         ensures { result ≡ columns.items }
     {

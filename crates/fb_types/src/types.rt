@@ -63,7 +63,7 @@ impl ColType {
 
     /// The word of the type in a schema text.
     #[tactic(auto, unfolding(crate::specs::Types::type_name))]
-    pub(crate) fn name(self) -> &'static str
+    pub fn name(self) -> &'static str
         ensures { result.now ≡ type_name self }
     {
         match self {
@@ -82,7 +82,7 @@ impl ColType {
 
     /// The type that `word` names in a schema text.
     #[tactic(auto, unfolding(crate::specs::SchemaText::type_named))]
-    pub(crate) fn named(word: &[u8]) -> Option<ColType>
+    pub fn named(word: &[u8]) -> Option<ColType>
         ensures { result ≡ type_named word.now }
     {
         TYPES

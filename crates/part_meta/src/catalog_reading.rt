@@ -12,7 +12,7 @@ ghost use Rattle.part_meta.specs.Faults.{Gives, IsFaultOf, Reads};
 
 use crate::catalog::Catalog;
 use crate::fault::MetaTextFault;
-use crate::lines::{behind, labelled_number, split_line};
+use crate::lines::{behind, is, labelled_number, split_line};
 use fb_types::{MetaFault, Schema, parse_schema, print_schema};
 use sqlite_items::Items;
 use std::alloc::{AllocError, Global};
@@ -93,7 +93,7 @@ fn with_line(
 fn with_title(text: &[u8]) -> Option<CatalogFront>
     ensures { GoesOn IsCatalog catalog_lines IsFront front_lines CatalogFront.Nothing text.now result }
 {
-    if text == b"fastbit catalog 1".as_slice() {
+    if is(text, "fastbit catalog 1") {
         Some(CatalogFront::Title)
     } else {
         None

@@ -69,7 +69,7 @@ fn push_folder(text: &mut Vec<u8>, dir: &FileName, part: u32) -> Result<(), Allo
 }
 
 /// The last decimal digit of a number, as ASCII.
-fn digit(n: u32) -> u8
+pub(crate) fn digit(n: u32) -> u8
     ensures { result ≡ 48 + n % 10 }
 {
     b'0' + (n % 10) as u8

@@ -1,0 +1,49 @@
+use Rattle.std.proofs.Common.{◌≡◌, ◌+◌, ◌==◌, ◌∷◌, ◌++◌, [], List, ℕ, length, true, false, sym, ap, ◌∙◌, arith, append-nil, eqb-true, subst, Option, Some, None}
+use Rattle.std.proofs.lemmas.List.{length_push, nil_from_length}
+use Rattle.part_meta.specs.PartFront.{IsFront, front_lines}
+use Rattle.part_meta.specs.declared.part_reading.PartFront.{PartFront}
+use Rattle.part_meta.specs.PartText.{IsPart, part_lines}
+use Rattle.part_meta.specs.Lines.{GoesOn, line, lines_in}
+use Rattle.part_meta.proofs.BeginLemmas.{begins_front}
+use Rattle.part_meta.proofs.PartLemmas.{part_lines_are}
+use Rattle.part_meta.proofs.CutLemmas.{ended_early, lines_in-line, step_in, unended, wrong_line}
+use Rattle.part_meta.proofs.part_reading.read.Goals as goal
+
+abbrev Goes : PartFront → List ℕ → Option PartFront → Type 0
+Goes front text longer = GoesOn IsPart part_lines IsFront front_lines front text longer
+
+pub returns-in-Ok-None : goal.returns-in-Ok-None
+returns-in-Ok-None c =
+    let front = front_lines c.loop-text.front in
+    let next : lines_in c.loop-text.rest.now ≡ line c.in-Some.text.now ∷ lines_in c.in-Some.after.now =
+    ap lines_in c.in-Some.ensures.1 ∙ lines_in-line c.in-Some.text.now c.in-Some.after.now c.in-Some.ensures.0 in
+    wrong_line IsPart part_lines c.args.bytes.now front (line c.in-Some.text.now) (lines_in c.in-Some.after.now) c.loop-text.number
+    (c.loop-text.invariant.cut ∙ ap (λ t. front ++ t) next) c.loop-text.invariant.counted (begins_front c.loop-text.front c.loop-text.invariant.valid)
+    (subst (Goes c.loop-text.front c.in-Some.text.now) c.in-Ok-None.field-0-is c.in-Ok-None.ensures)
+
+pub loop-text-preserved : goal.loop-text-preserved
+loop-text-preserved c =
+    let front = front_lines c.loop-text.front in
+    let next : lines_in c.loop-text.rest.now ≡ line c.in-Some.text.now ∷ lines_in c.in-Some.after.now =
+    ap lines_in c.in-Some.ensures.1 ∙ lines_in-line c.in-Some.text.now c.in-Some.after.now c.in-Some.ensures.0 in
+    let goes : Goes c.loop-text.front c.in-Some.text.now (Some c.in-Ok-Some.longer) = subst (Goes c.loop-text.front c.in-Some.text.now) c.in-Ok-Some.field-0-is c.in-Ok-Some.ensures in
+    let longer : front_lines c.in-Ok-Some.longer ≡ front ++ line c.in-Some.text.now ∷ [] = goes.1 in
+    record {
+      valid = goes.0;
+      cut = c.loop-text.invariant.cut ∙ ap (λ t. front ++ t) next ∙ step_in front (line c.in-Some.text.now) (lines_in c.in-Some.after.now) ∙ ap (λ t. t ++ lines_in c.in-Some.after.now) (sym longer);
+      counted = omega (arith, ap length longer, length_push front (line c.in-Some.text.now), c.loop-text.invariant.counted);
+    }
+
+pub returns-then-not-is_empty : goal.returns-then-not-is_empty
+returns-then-not-is_empty c =
+    unended IsPart part_lines part_lines_are c.args.bytes.now (front_lines c.loop-text.front) c.loop-text.rest.now c.loop-text.number c.loop-text.invariant.cut c.loop-text.invariant.counted
+    (begins_front c.loop-text.front c.loop-text.invariant.valid) c.in_default.ensures
+    (sym c.is_empty.ensures ∙ c.if-not-is_empty.true)
+
+pub returns-in-None : goal.returns-in-None
+returns-in-None c =
+    let none : (length c.loop-text.rest.now == 0) ≡ true = sym c.is_empty.ensures ∙ c.if-not-is_empty.false in
+    let ended : lines_in c.loop-text.rest.now ≡ [] = ap lines_in (nil_from_length c.loop-text.rest.now (eqb-true (length c.loop-text.rest.now) 0 none)) in
+    ended_early IsPart part_lines c.args.bytes.now (front_lines c.loop-text.front) c.loop-text.number
+    (c.loop-text.invariant.cut ∙ ap (λ t. front_lines c.loop-text.front ++ t) ended ∙ append-nil (front_lines c.loop-text.front))
+    c.loop-text.invariant.counted (begins_front c.loop-text.front c.loop-text.invariant.valid) c.in-None.ensures

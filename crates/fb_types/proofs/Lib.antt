@@ -5,3 +5,4 @@ pub mod RowFacts
 pub mod SchemaFacts
 pub mod SlotFacts
 pub mod TextFacts
+pub mod TypeFacts

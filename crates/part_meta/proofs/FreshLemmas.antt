@@ -46,8 +46,8 @@ among_or_none : (x : List ℕ) (names : List (List ℕ)) → IsAmong x names ⊎
 among_or_none x [] = inr tt
 among_or_none x (y ∷ ys) =
     elim (cases_Bool (bytes_eq y x)) [
-      inl yes ↦ inl (record { front = []; back = ys; joined = ap (λ t. t ∷ ys) ((bytes_eq-Decides y x).0 yes) })
-    | inr no_ ↦ among_more x y ys (λ e. both_ways (bytes_eq y x) no_ ((bytes_eq-Decides y x).1 e)) (among_or_none x ys)
+      inl same ↦ inl (record { front = []; back = ys; joined = ap (λ t. t ∷ ys) ((bytes_eq-Decides y x).0 same) })
+    | inr other ↦ among_more x y ys (λ e. both_ways (bytes_eq y x) other ((bytes_eq-Decides y x).1 e)) (among_or_none x ys)
     ]
 
 none_inserted : (x y : List ℕ) (front back : List (List ℕ)) → y ≢ x → NoneIs x (front ++ back) → NoneIs x (front ++ y ∷ back)

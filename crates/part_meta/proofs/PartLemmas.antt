@@ -1,19 +1,22 @@
 -- How a part's text goes on.
-use Rattle.std.proofs.Common.{◌≡◌, ◌≢◌, ℕ, ◌+◌, ◌<◌, ◌≤◌, ◌^◌, List, [], ◌∷◌, ◌++◌, length, get_or, Some, refl, sym, ap, ◌∙◌, subst, arith, codes, decimal, append_assoc}
+use Rattle.std.proofs.Common.{◌≡◌, ◌≢◌, ℕ, ◌+◌, ◌<◌, ◌≤◌, ◌^◌, List, [], ◌∷◌, ◌++◌, length, get_or, Option, Some, None, MatchOption, refl, sym, ap, ◌∙◌, subst, arith, codes, decimal, append_assoc}
 use Rattle.std.specs.List.{All, AllPairs, AllByRecursion, flat_map}
 use Rattle.std.proofs.lemmas.List.{append_cancel_left, append-nil, get_or_append_left, get_or_at, length-append}
+use Rattle.std.proofs.lemmas.List.Concat.{flat_map-append}
 use Rattle.std.proofs.lemmas.List.Elements.{recursion_from_All}
+use Rattle.fb_types.proofs.TypeFacts.{type_named-told, type_named-type_name}
 use Rattle.fb_types.specs.Names.{IsColumnName}
 use Rattle.fb_types.specs.Schemas.{IsSchema}
 use Rattle.fb_types.specs.SchemaText.{type_named}
 use Rattle.fb_types.specs.Types.{type_name}
 use Rattle.fb_types.specs.declared.schemas.Column.{Column}
 use Rattle.fb_types.specs.declared.types.ColType.{ColType}
-use Rattle.fb_types.specs.declared.types.ColType.TheVariants.{Byte, UByte, Short, UShort, Int, UInt, Long, ULong, Category, Text}
 use Rattle.part_meta.specs.FileNames.{folder_name, four_digits}
 use Rattle.part_meta.specs.Lines.{line, Begins}
 use Rattle.part_meta.specs.PartText.{IsPart, column_begin_line, column_end_line, column_lines, count_line, header_begin_line, header_end_line, name_line, number_line, part_lines, part_text, rows_line, type_line}
-use Rattle.part_meta.specs.PartFront.{Takes, body_lines, head_lines}
+use Rattle.part_meta.specs.PartFront.{IsBody, Takes, body_lines, head_lines, open_lines}
+use Rattle.part_meta.specs.declared.part_reading.Open.{Open}
+use Rattle.part_meta.specs.declared.part_reading.Open.TheVariants as open_
 use Rattle.part_meta.specs.declared.part.PartMeta.{PartMeta}
 use Rattle.part_meta.specs.declared.part_reading.Head.{Head}
 use Rattle.part_meta.specs.declared.part_reading.Body.{Body}
@@ -76,21 +79,8 @@ pub name_line-injective : (a b : List ℕ) → name_line a ≡ name_line b → a
 unfolding name_line
 name_line-injective a b e = append_cancel_left (codes "name = ") a b (line-injective (codes "name = " ++ a) (codes "name = " ++ b) e)
 
-type_again : (ty : ColType) → type_named (type_name ty) ≡ Some ty
-unfolding type_named type_name
-type_again Byte = refl
-type_again UByte = refl
-type_again Short = refl
-type_again UShort = refl
-type_again Int = refl
-type_again UInt = refl
-type_again Long = refl
-type_again ULong = refl
-type_again Category = refl
-type_again Text = refl
-
 pub type_name-injective : (a b : ColType) → type_name a ≡ type_name b → a ≡ b
-type_name-injective a b e = let same : Some a ≡ Some b = sym (type_again a) ∙ ap type_named e ∙ type_again b in cc
+type_name-injective a b e = let same : Some a ≡ Some b = sym (type_named-type_name a) ∙ ap type_named e ∙ type_named-type_name b in cc
 
 pub type_line-injective : (a b : ColType) → type_line a ≡ type_line b → a ≡ b
 unfolding type_line
@@ -209,3 +199,105 @@ part_lines-injective p q h k e =
 pub part_text-injective : (p q : PartMeta) → IsPart p → IsPart q → part_text p ≡ part_text q → p ≡ q
 unfolding part_text
 part_text-injective p q h k e = one_text IsPart part_lines part_lines_are part_lines-injective p q h k e
+
+-- ---- what a line of a column has to be
+
+regrouped : (lines read : List (List ℕ)) (l : List ℕ) (rest : List (List ℕ)) → ((lines ++ read) ++ l ∷ []) ++ rest ≡ lines ++ (read ++ l ∷ rest)
+regrouped lines read l rest = simp append_assoc
+
+next_after : (body : Body) (read : List (List ℕ)) (text : List ℕ) (l : List ℕ) (ls : List (List ℕ)) → IsBody body → (b : BeginsPart ((body_lines body ++ read) ++ line text ∷ [])) → read ++ line text ∷ b.rest ≡ l ∷ ls
+    → NextColumn body (l ∷ ls)
+next_after body read text l ls valid b here =
+    next_column body b.value l ls b.valid valid.head.few (b.spelled ∙ regrouped (body_lines body) read (line text) b.rest ∙ ap (λ t. body_lines body ++ t) here)
+
+-- the column that comes next, and the line of it that is the text
+pub record HasNext (body : Body) (is : Column → Type 0) : Type 0 where
+  pub column : Column
+  pub takes : Takes body column.name
+  pub has : is column
+
+pub is_column_begin : (body : Body) (text : List ℕ) → IsBody body → BeginsPart ((body_lines body ++ []) ++ line text ∷ []) → HasNext body (λ c. text ≡ codes "Begin Column")
+unfolding column_begin_line
+is_column_begin body text valid b =
+    let n = next_after body [] text (line text) b.rest valid b refl in
+    let same : column_begin_line ≡ line text = cc (n.lines) in
+    record { column = n.column; takes = n.takes; has = line-injective text (codes "Begin Column") (sym same) }
+
+pub is_name : (body : Body) (text : List ℕ) → IsBody body → BeginsPart ((body_lines body ++ column_begin_line ∷ []) ++ line text ∷ []) → HasNext body (λ c. text ≡ codes "name = " ++ c.name)
+unfolding name_line
+is_name body text valid b =
+    let n = next_after body (column_begin_line ∷ []) text column_begin_line (line text ∷ b.rest) valid b refl in
+    let same : name_line n.column.name ≡ line text = cc (n.lines) in
+    record { column = n.column; takes = n.takes; has = line-injective text (codes "name = " ++ n.column.name) (sym same) }
+
+pub is_type : (body : Body) (name text : List ℕ) → IsBody body → BeginsPart ((body_lines body ++ column_begin_line ∷ name_line name ∷ []) ++ line text ∷ []) → HasNext body (λ c. text ≡ codes "data_type = " ++ type_name c.ty)
+unfolding type_line
+is_type body name text valid b =
+    let n = next_after body (column_begin_line ∷ name_line name ∷ []) text column_begin_line (name_line name ∷ line text ∷ b.rest) valid b refl in
+    let same : type_line n.column.ty ≡ line text = cc (n.lines) in
+    record { column = n.column; takes = n.takes; has = line-injective text (codes "data_type = " ++ type_name n.column.ty) (sym same) }
+
+pub is_column_end : (body : Body) (column : Column) (text : List ℕ) → IsBody body
+    → BeginsPart ((body_lines body ++ column_begin_line ∷ name_line column.name ∷ type_line column.ty ∷ []) ++ line text ∷ []) → text ≡ codes "End Column"
+unfolding column_end_line
+is_column_end body column text valid b =
+    let n = next_after body (column_begin_line ∷ name_line column.name ∷ type_line column.ty ∷ []) text column_begin_line (name_line column.name ∷ type_line column.ty ∷ line text ∷ b.rest) valid b refl in
+    let same : column_end_line ≡ line text = cc (n.lines) in
+    line-injective text (codes "End Column") (sym same)
+
+-- ---- one more line of a column
+
+pub with_more : (lines read : List (List ℕ)) (l : List ℕ) → lines ++ (read ++ l ∷ []) ≡ (lines ++ read) ++ l ∷ []
+with_more lines read l = sym (append_assoc lines read (l ∷ []))
+
+pub started_body : (head : Head) (items : List Column) (text : List ℕ) → items ≡ [] → text ≡ codes "END HEADER"
+    → header_begin_line ∷ number_line head.number ∷ rows_line head.rows ∷ count_line head.count ∷ header_end_line ∷ (flat_map column_lines items ++ []) ≡ head_lines head ++ line text ∷ []
+unfolding header_end_line
+started_body head items text none is =
+    ap (λ cs. header_begin_line ∷ number_line head.number ∷ rows_line head.rows ∷ count_line head.count ∷ header_end_line ∷ (flat_map column_lines cs ++ [])) none
+    ∙ ap (λ t. header_begin_line ∷ number_line head.number ∷ rows_line head.rows ∷ count_line head.count ∷ line t ∷ []) (sym is)
+
+abbrev three_lines : Column → List (List ℕ)
+three_lines column = column_begin_line ∷ name_line column.name ∷ type_line column.ty ∷ []
+
+pub ended_body : (body : Body) (column : Column) (items : List Column) (text : List ℕ) → items ≡ body.columns.items ++ column ∷ [] → text ≡ codes "End Column"
+    → header_begin_line ∷ number_line body.head.number ∷ rows_line body.head.rows ∷ count_line body.head.count ∷ header_end_line ∷ (flat_map column_lines items ++ [])
+    ≡ (body_lines body ++ three_lines column) ++ line text ∷ []
+unfolding column_end_line
+ended_body body column items text pushed is =
+    let columns = flat_map column_lines body.columns.items in
+    let ended : column_end_line ≡ line text = ap line (sym is) in
+    let one : flat_map column_lines items ≡ columns ++ (three_lines column ++ column_end_line ∷ []) =
+    ap (flat_map column_lines) pushed ∙ flat_map-append column_lines body.columns.items (column ∷ []) in
+    let lines : flat_map column_lines items ++ [] ≡ (columns ++ three_lines column) ++ line text ∷ [] =
+    append-nil (flat_map column_lines items) ∙ one ∙ sym (append_assoc columns (three_lines column) (column_end_line ∷ []))
+    ∙ ap (λ l. (columns ++ three_lines column) ++ l ∷ []) ended in
+    ap (λ t. header_begin_line ∷ number_line body.head.number ∷ rows_line body.head.rows ∷ count_line body.head.count ∷ header_end_line ∷ t) lines
+
+-- ---- types
+
+pub behind_type : (r : Option ColType) (text label word : List ℕ) → text ≡ label ++ word → r ≡ type_named word
+    → MatchOption r ((ty : ColType) → text ≢ label ++ type_name ty) (λ ty. text ≡ label ++ type_name ty)
+behind_type None text label word cut found = λ ty is.
+    let same : word ≡ type_name ty = append_cancel_left label word (type_name ty) (sym cut ∙ is) in
+    let known : None ≡ Some ty = found ∙ ap type_named same ∙ type_named-type_name ty in
+    absurd (cc)
+behind_type (Some ty) text label word cut found = cut ∙ ap (λ t. label ++ t) (sym (type_named-told word ty (sym found)))
+
+-- ---- where no part ends
+
+pub open_is_no_end : (body : Body) (o : Open) → IsBody body → (o ≡ open_.Nothing → ⊥) → (part : PartMeta) → IsPart part → part_lines part ≢ body_lines body ++ open_lines o
+open_is_no_end body open_.Nothing valid some part is e = some refl
+open_is_no_end body open_.Begun valid some part is e = let n = next_column body part column_begin_line [] is valid.head.few e in absurd (cc (n.lines))
+open_is_no_end body (open_.Named name) valid some part is e =
+    let n = next_column body part column_begin_line (name_line name ∷ []) is valid.head.few e in absurd (cc (n.lines))
+open_is_no_end body (open_.Typed column) valid some part is e =
+    let n = next_column body part column_begin_line (name_line column.name ∷ type_line column.ty ∷ []) is valid.head.few e in absurd (cc (n.lines))
+
+pub all_columns : (body : Body) → IsBody body → (part : PartMeta) → IsPart part → part_lines part ≡ body_lines body ++ [] → length body.columns.items ≡ body.head.count
+all_columns body valid part is e =
+    let spelled : part_lines part ≡ body_lines body = e ∙ append-nil (body_lines body) in
+    let counts : count_line (length part.schema) ≡ count_line body.head.count = cc in
+    let count : length part.schema ≡ body.head.count = count_line-injective (length part.schema) body.head.count (omega (arith, is.schema.few)) (omega (arith, valid.head.few)) counts in
+    let lines : flat_map column_lines part.schema ≡ flat_map column_lines body.columns.items = cc in
+    ap length (sym (same_columns part.schema body.columns.items lines)) ∙ count

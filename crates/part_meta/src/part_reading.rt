@@ -1,6 +1,6 @@
 //! Parts' texts, read line by line.
 
-ghost use Rattle.std.specs.Prelude.{◌≡◌, ◌≢◌, ◌<◌, ◌≤◌, ◌++◌, ◌↔◌, List, ℕ, length, MatchOption, IfOk, IfErr, IsTrue};
+ghost use Rattle.std.specs.Prelude.{◌≡◌, ◌≢◌, ◌<◌, ◌≤◌, ◌-◌, ◌++◌, ◌↔◌, List, ℕ, length, MatchOption, IfOk, IfErr, IsTrue};
 ghost use Rattle.std.specs.List.{All};
 ghost use Rattle.fb_types.specs.Names.{IsColumnName};
 ghost use Rattle.fb_types.specs.Types.{type_name};
@@ -243,7 +243,10 @@ fn with_column(body: Body, text: &[u8]) -> Option<PartFront>
     requires fits { length body.columns.items ≤ body.head.count }
     ensures { GoesOn IsPart part_lines IsFront front_lines (PartFront.InColumns body Open.Nothing) text.now result }
 {
-    if body.columns.len() < body.head.count as usize && is(text, "Begin Column") {
+    if body.columns.len() == body.head.count as usize {
+        return None;
+    }
+    if is(text, "Begin Column") {
         Some(PartFront::InColumns(body, Open::Begun))
     } else {
         None

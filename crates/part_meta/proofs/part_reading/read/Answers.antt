@@ -4,7 +4,7 @@ use Rattle.part_meta.specs.PartFront.{IsFront, front_lines}
 use Rattle.part_meta.specs.declared.part_reading.PartFront.{PartFront}
 use Rattle.part_meta.specs.PartText.{IsPart, part_lines}
 use Rattle.part_meta.specs.Lines.{GoesOn, line, lines_in}
-use Rattle.part_meta.proofs.BeginLemmas.{begins_front}
+use Rattle.part_meta.proofs.BeginLemmas.{begins_front, front_is_short}
 use Rattle.part_meta.proofs.PartLemmas.{part_lines_are}
 use Rattle.part_meta.proofs.CutLemmas.{ended_early, lines_in-line, step_in, unended, wrong_line}
 use Rattle.part_meta.proofs.part_reading.read.Goals as goal
@@ -47,3 +47,6 @@ returns-in-None c =
     ended_early IsPart part_lines c.args.bytes.now (front_lines c.loop-text.front) c.loop-text.number
     (c.loop-text.invariant.cut ∙ ap (λ t. front_lines c.loop-text.front ++ t) ended ∙ append-nil (front_lines c.loop-text.front))
     c.loop-text.invariant.counted (begins_front c.loop-text.front c.loop-text.invariant.valid) c.in-None.ensures
+
+pub overflow_add-number : goal.overflow_add-number
+overflow_add-number c = omega (arith, front_is_short c.loop-text.front c.loop-text.invariant.valid, c.loop-text.invariant.counted)

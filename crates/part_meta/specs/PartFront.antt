@@ -3,7 +3,7 @@ use Rattle.std.specs.Prelude.{◌≢◌, ◌≤◌, ◌<◌, ℕ, List, [], ◌�
 use Rattle.std.specs.List.{All, AllPairs, flat_map}
 use Rattle.fb_types.specs.Names.{IsColumnName}
 use Rattle.fb_types.specs.declared.schemas.Column.{Column}
-use Rattle.part_meta.specs.PartText.{column_begin_line, column_lines, count_line, header_begin_line, header_end_line, name_line, number_line, rows_line, type_line}
+use Rattle.part_meta.specs.PartText.{column_begin_line, column_lines, count_line, header_begin_line, header_lines, name_line, number_line, rows_line, type_line}
 use Rattle.part_meta.specs.declared.part_reading.Head.{Head}
 use Rattle.part_meta.specs.declared.part_reading.Body.{Body}
 use Rattle.part_meta.specs.declared.part_reading.Open.{Open}
@@ -24,8 +24,7 @@ abbrev pub head_lines : Head → List (List ℕ)
 head_lines head = header_begin_line ∷ number_line head.number ∷ rows_line head.rows ∷ count_line head.count ∷ []
 
 abbrev pub body_lines : Body → List (List ℕ)
-body_lines body = header_begin_line ∷ number_line body.head.number ∷ rows_line body.head.rows ∷ count_line body.head.count ∷ header_end_line
-    ∷ flat_map column_lines body.columns.items
+body_lines body = header_lines body.head.number body.head.rows body.head.count ++ flat_map column_lines body.columns.items
 
 abbrev pub front_lines : PartFront → List (List ℕ)
 front_lines front.Nothing = []

@@ -51,10 +51,12 @@ count_line count = line (codes "Number_of_columns = " ++ decimal count)
 unfoldable pub header_end_line : List ℕ
 header_end_line = line (codes "END HEADER")
 
+abbrev pub header_lines : ℕ → ℕ → ℕ → List (List ℕ)
+header_lines number rows count =
+    header_begin_line ∷ number_line number ∷ rows_line rows ∷ count_line count ∷ header_end_line ∷ []
+
 abbrev pub part_lines : PartMeta → List (List ℕ)
-part_lines part =
-    header_begin_line ∷ number_line part.number ∷ rows_line part.rows ∷ count_line (length part.schema) ∷ header_end_line
-    ∷ flat_map column_lines part.schema
+part_lines part = header_lines part.number part.rows (length part.schema) ++ flat_map column_lines part.schema
 
 unfoldable pub part_text : PartMeta → List ℕ
 part_text part = joined (part_lines part)

@@ -336,10 +336,3 @@ fn with_column_end(
     body.columns.push(column)?;
     Ok(Some(PartFront::InColumns(body, Open::Nothing)))
 }
-
-/// The part's text.
-pub fn print_part(alloc: Global, part: &PartMeta) -> Result<Vec<u8>, AllocError>
-    ensures { IfOk result (λ text. text.items ≡ part_text part.now) }
-{
-    Err(AllocError)
-}

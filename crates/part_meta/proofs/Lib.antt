@@ -9,4 +9,5 @@ pub mod NumberLemmas
 pub mod PartLemmas
 pub mod PieceLemmas
 pub mod PlainLemmas
+pub mod PrintLemmas
 pub mod SchemaLaws

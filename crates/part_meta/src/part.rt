@@ -59,7 +59,8 @@ fn push_number(text: &mut Vec<u8>, number: u32) -> Result<(), AllocError>
         digit(number),
         b'\n',
     ];
-    text.extend_from_slice(&digits)
+    text.extend_from_slice(&digits)?;
+    Ok(())
 }
 
 fn push_column(text: &mut Vec<u8>, column: &Column) -> Result<(), AllocError>
@@ -69,5 +70,6 @@ fn push_column(text: &mut Vec<u8>, column: &Column) -> Result<(), AllocError>
     text.extend_from_slice(column.name.bytes())?;
     text.extend_from_slice(b"\ndata_type = ")?;
     text.extend_from_slice(column.ty.name().as_bytes())?;
-    text.extend_from_slice(b"\nEnd Column\n")
+    text.extend_from_slice(b"\nEnd Column\n")?;
+    Ok(())
 }

@@ -1,5 +1,6 @@
 -- What `loaded` says, told without going through the records one by one.
-use Rattle.std.specs.Prelude.{◌≡◌, ⊤, ◌+◌, ◌++◌, ◌∷◌, ℕ, List, Result, Ok, Err, drop, length, map}
+use Rattle.std.specs.Prelude.{⊤, ◌+◌, ℕ, List, Result, drop, map}
+pub use Rattle.fb_types.specs.AllOrFirst.{StopsAt}
 use Rattle.fb_types.specs.declared.cells.Cell.{Cell}
 use Rattle.fb_types.specs.declared.schemas.Column.{Column}
 use Rattle.csv_load.specs.Loaded.{record_cells, text_records}
@@ -10,13 +11,6 @@ use Rattle.csv_load.specs.declared.load.RecordFault.TheVariants as at_record
 -- what each kept record of a text gives under a schema: its cells, or its first bad field
 abbrev pub each_record : List ℕ → List Column → ℕ → List (Result (List Cell) (ℕ × RecordKind))
 each_record bytes columns skip = map (record_cells columns) (drop skip (text_records bytes))
-
--- the values come one after the other, and then, at the place counted from n, the first that is missing
-pub record StopsAt {A E : Type 0} (n : ℕ) (all : List (Result A E)) (place : ℕ) (why : E) : Type 0 where
-  pub before : List A
-  pub after : List (Result A E)
-  pub split : all ≡ map Ok before ++ Err why ∷ after
-  pub counted : place ≡ n + length before
 
 -- each record before the fault has its cells, and the fault's has that bad field first
 abbrev pub IsFirstFault : RecordFault → List ℕ → List Column → ℕ → Type 0

@@ -1,7 +1,8 @@
 -- The records that a load keeps of a CSV text, or its first fault.
-use Rattle.std.specs.Prelude.{◌==◌, ◌+◌, ℕ, List, [], ◌∷◌, ◌++◌, Result, Ok, Err, drop, if◌then◌else◌, is_some, length, map, min, nat_le}
+use Rattle.std.specs.Prelude.{◌==◌, ◌+◌, ℕ, List, [], ◌∷◌, Result, Ok, Err, drop, if◌then◌else◌, is_some, length, map, min, nat_le}
 use Rattle.csv.specs.Reading.{default_config, records, strip_bom}
-pub use Rattle.fb_types.specs.AllOrFirst.{all_or_first, behind}
+unfoldable pub use Rattle.fb_types.specs.AllOrFirst.{all_or_first}
+pub use Rattle.fb_types.specs.AllOrFirst.{behind}
 use Rattle.fb_types.specs.Field.{field_answer}
 use Rattle.fb_types.specs.Types.{ends_of}
 use Rattle.fb_types.specs.declared.cells.Cell.{Cell}

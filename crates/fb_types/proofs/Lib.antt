@@ -1,8 +1,14 @@
+pub mod AllOrFirstFacts
+pub mod BlankFacts
 pub mod CellFacts
+pub mod EachFacts
+pub mod FaultFacts
 pub mod FieldFacts
+pub mod ItemFacts
 pub mod NameFacts
 pub mod RowFacts
 pub mod SchemaFacts
+pub mod SchemaLaws
 pub mod SlotFacts
 pub mod TextFacts
 pub mod TypeFacts

@@ -8,11 +8,11 @@ use Rattle.std.proofs.lemmas.Bool.Decides.{nat_tests}
 use Rattle.fb_types.specs.Names.{begins_name, continues_name, has_name_bytes, is_column_name, IsColumnName, column_name}
 use Rattle.fb_types.specs.SchemaText.{is_colon}
 
-both_left : (a b : Bool) → (a && b) ≡ true → a ≡ true
+pub both_left : (a b : Bool) → (a && b) ≡ true → a ≡ true
 both_left true b h = refl
 both_left false b h = h
 
-both_right : (a b : Bool) → (a && b) ≡ true → b ≡ true
+pub both_right : (a b : Bool) → (a && b) ≡ true → b ≡ true
 both_right true b h = h
 both_right false b h = cc
 
@@ -45,7 +45,7 @@ name_short name h =
 lower_byte : (b : ℕ) → continues_name b ≡ true → to_ascii_lowercase b ≡ b
 lower_byte b h = grind (arith, nat_tests)
 
-lower_same : (bytes : List ℕ) → list_all continues_name bytes ≡ true → str_to_ascii_lowercase bytes ≡ bytes
+pub lower_same : (bytes : List ℕ) → list_all continues_name bytes ≡ true → str_to_ascii_lowercase bytes ≡ bytes
 lower_same [] h = refl
 lower_same (b ∷ bs) h =
     let first = lower_byte b (both_left _ _ h) in
@@ -56,7 +56,7 @@ lower_same (b ∷ bs) h =
 pub column_name-kept : (name : List ℕ) → IsColumnName name → column_name name ≡ Some name
 column_name-kept name h = rw (lower_same name (name_continues name h), h) refl
 
-kept_if : (test : Bool) (one name : List ℕ) → cond test (Some one) None ≡ Some name → (test ≡ true) × (one ≡ name)
+pub kept_if : (test : Bool) (one name : List ℕ) → cond test (Some one) None ≡ Some name → (test ≡ true) × (one ≡ name)
 kept_if true one name is = (refl, cc)
 kept_if false one name is = (cc, cc)
 

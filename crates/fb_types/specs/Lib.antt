@@ -1,6 +1,7 @@
 pub mod AllOrFirst
 pub mod Cells
 pub mod Field
+pub mod FirstFault
 pub mod Names
 pub mod Rows
 pub mod SchemaText

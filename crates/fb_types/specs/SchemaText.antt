@@ -11,7 +11,7 @@ use Rattle.fb_types.specs.declared.schema_text.SchemaKind.{SchemaKind}
 use Rattle.fb_types.specs.declared.schema_text.SchemaKind.TheVariants.{Empty, TooMany, BadName, BadType, Repeated}
 use Rattle.fb_types.specs.AllOrFirst.{all_or_first}
 use Rattle.fb_types.specs.Field.{is_blank, trimmed}
-use Rattle.fb_types.specs.Names.{column_name}
+use Rattle.fb_types.specs.Names.{IsColumnName, column_name}
 use Rattle.fb_types.specs.Types.{type_name}
 
 -- ---- the printed form: `name:type`, joined by commas (58 and 44)
@@ -37,15 +37,24 @@ pub record IsPadded (bytes piece : List ℕ) : Type 0 where
   pub blank_front : list_all is_blank front ≡ true
   pub blank_back : list_all is_blank back ≡ true
 
--- an item is a name in letters of either case, a colon and the type's word, with blanks round each of both
+-- the bytes are a column name in letters of either case, with blanks round it
+pub record SpellsName (bytes kept : List ℕ) : Type 0 where
+  pub name : List ℕ
+  pub padded : IsPadded bytes name
+  pub lower : str_to_ascii_lowercase name ≡ kept
+  pub named : IsColumnName kept
+
+-- the bytes are a type's word, with blanks round it
+abbrev pub SpellsType : List ℕ → ColType → Type 0
+SpellsType bytes ty = IsPadded bytes (type_name ty)
+
+-- an item is a name, a colon and a type
 pub record Writes (item : List ℕ) (column : Column) : Type 0 where
   pub left : List ℕ
   pub right : List ℕ
-  pub name : List ℕ
   pub cut : item ≡ left ++ 58 ∷ right
-  pub named : IsPadded left name
-  pub lower : str_to_ascii_lowercase name ≡ column.name
-  pub typed : IsPadded right (type_name column.ty)
+  pub named : SpellsName left column.name
+  pub typed : SpellsType right column.ty
 
 -- a text is an item for each column, joined by commas
 pub record Spells (text : List ℕ) (columns : List Column) : Type 0 where
@@ -115,10 +124,13 @@ read_schema text =
 
 -- ---- answers of `parse_schema`
 
--- the fault is that of the text, unless memory ran out
+-- the fault is the one that is defined, unless memory ran out
+abbrev pub IsFaultIn : MetaFault → Result (List Column) SchemaFault → Type 0
+IsFaultIn (Bad column kind) defined = defined ≡ Err (record { column = column; kind = kind })
+IsFaultIn OutOfMemory defined = Unit {0}
+
 abbrev pub IsFaultOf : MetaFault → List ℕ → Type 0
-IsFaultOf (Bad column kind) text = read_schema text ≡ Err (record { column = column; kind = kind })
-IsFaultOf OutOfMemory text = Unit {0}
+IsFaultOf fault text = IsFaultIn fault (read_schema text)
 
 -- these columns were read, unless memory ran out
 abbrev pub AreRead : List Column → Result (List Column) MetaFault → Type 0

@@ -80,7 +80,7 @@ impl ColType {
         }
     }
 
-    /// The type that `word` names in a schema text.
+    /// The type of that word in a schema text; `None` where no type has it.
     #[tactic(auto, unfolding(crate::specs::SchemaText::type_named))]
     pub fn named(word: &[u8]) -> Option<ColType>
         ensures { result ≡ type_named word.now }

@@ -11,4 +11,3 @@ pub mod SchemaFacts
 pub mod SchemaLaws
 pub mod SlotFacts
 pub mod TextFacts
-pub mod TypeFacts

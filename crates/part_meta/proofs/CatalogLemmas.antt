@@ -18,7 +18,7 @@ use Rattle.part_meta.specs.declared.catalog_reading.CatalogFront.TheVariants.{No
 use Rattle.part_meta.specs.declared.catalog.Catalog.{Catalog}
 use Rattle.part_meta.proofs.CutLemmas.{IsLine, line-injective, one_text}
 use Rattle.part_meta.proofs.PlainLemmas.{plain_decimal, plain_labelled, plain_line, plain_schema}
-use Rattle.part_meta.proofs.SchemaLaws.{schema_text-injective}
+use Rattle.fb_types.proofs.SchemaLaws.{schema_text-injective}
 use Rattle.part_meta.proofs.NumberLemmas.{label_told}
 
 abbrev pub BeginsCatalog : List (List ℕ) → Type 0

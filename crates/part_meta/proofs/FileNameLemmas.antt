@@ -2,10 +2,11 @@
 use Rattle.std.proofs.Common.{nat_le, ◌≡◌, ◌≢◌, ◌+◌, ◌<◌, ◌%◌, ◌&&◌, ◌==◌, eqb, not, ℕ, Bool, true, false, List, [], ◌∷◌, ◌++◌, length, Option, Some, None, IsNone, IsSomeAnd, unwrap_or, if◌then◌else◌, bytes_eq, refl, sym, ap, ◌∙◌, subst, arith, append_assoc, append-nil, length-append}
 use Rattle.std.specs.List.{AllByRecursion, list_all}
 use lib.Chars.{codes}
-use Rattle.std.proofs.lemmas.Bool.{and_from, and_parts, not-true}
+use Rattle.std.proofs.lemmas.Bool.{and_from, and_parts, both_ways, not-true}
 use Rattle.std.proofs.lemmas.Bool.Decides.{nat_tests}
 use Rattle.std.proofs.lemmas.List.{append_cancel_right}
 use Rattle.std.proofs.lemmas.List.Folds.{list_all-append}
+use Rattle.std.proofs.lemmas.Slice.Eq.{bytes_eq-Decides}
 use Rattle.fb_outside.proofs.JoinLemmas.{NoSlash, same_ends}
 use Rattle.fb_types.proofs.NameFacts.{name_continues}
 use Rattle.fb_types.specs.Names.{IsColumnName, begins_name, continues_name, has_name_bytes, is_keyword}
@@ -268,16 +269,23 @@ dot_among : (xs ys : List ℕ) → Lacks 46 (xs ++ 46 ∷ ys) → ⊥
 dot_among [] ys h = dot_in 46 ys refl h
 dot_among (x ∷ xs) ys h = dot_among xs ys (and_parts (not (x == 46)) (list_all (λ b. not (b == 46)) (xs ++ 46 ∷ ys)) h).1
 
-no_csv : (kind : FileKind) (stem front : List ℕ) → Lacks 46 stem → stem ++ ending kind ≢ front ++ codes ".csv"
+-- texts that a test tells apart
+apart : (s t : List ℕ) → bytes_eq s t ≡ false → s ≢ t
+apart s t test same = both_ways (bytes_eq s t) test ((bytes_eq-Decides s t).1 same)
+
+four_csv : (base front s : List ℕ) → length s ≡ 4 → bytes_eq s (codes ".csv") ≡ false → base ++ s ≢ front ++ codes ".csv"
+four_csv base front s long test e = apart s (codes ".csv") test (same_tails base front s (codes ".csv") long e)
+
+no_csv : (kind : FileKind) (base front : List ℕ) → Lacks 46 base → base ++ ending kind ≢ front ++ codes ".csv"
 unfolding ending
-no_csv PartText stem front h e = let same : codes ".txt" ≡ codes ".csv" = same_tails stem front (codes ".txt") (codes ".csv") refl e in absurd (cc)
-no_csv Values stem front h e = let P : List ℕ → Type 0 = λ t. Lacks 46 t in dot_among front (codes "csv") (subst P (sym (append-nil stem) ∙ e) h)
-no_csv Mask stem front h e = let same : codes ".msk" ≡ codes ".csv" = same_tails stem front (codes ".msk") (codes ".csv") refl e in absurd (cc)
-no_csv Words stem front h e = let same : codes ".dic" ≡ codes ".csv" = same_tails stem front (codes ".dic") (codes ".csv") refl e in absurd (cc)
-no_csv Starts stem front h e =
-    let longer : stem ++ codes ".sp" ≡ (front ++ codes ".") ++ codes "csv" = e ∙ sym (append_assoc front (codes ".") (codes "csv")) in
-    let same : codes ".sp" ≡ codes "csv" = same_tails stem (front ++ codes ".") (codes ".sp") (codes "csv") refl longer in absurd (cc)
-no_csv Index stem front h e = let same : codes ".idx" ≡ codes ".csv" = same_tails stem front (codes ".idx") (codes ".csv") refl e in absurd (cc)
+no_csv PartText base front h e = four_csv base front (codes ".txt") refl refl e
+no_csv Values base front h e = let P : List ℕ → Type 0 = λ t. Lacks 46 t in dot_among front (codes "csv") (subst P (sym (append-nil base) ∙ e) h)
+no_csv Mask base front h e = four_csv base front (codes ".msk") refl refl e
+no_csv Words base front h e = four_csv base front (codes ".dic") refl refl e
+no_csv Starts base front h e =
+    let longer : base ++ codes ".sp" ≡ (front ++ codes ".") ++ codes "csv" = e ∙ sym (append_assoc front (codes ".") (codes "csv")) in
+    apart (codes ".sp") (codes "csv") refl (same_tails base (front ++ codes ".") (codes ".sp") (codes "csv") refl longer)
+no_csv Index base front h e = four_csv base front (codes ".idx") refl refl e
 
 pub file_is_no_csv : (p front : List ℕ) (a : ℕ) (m : Option (List ℕ)) (j : FileKind) → IsCalled j m → file_name p a m j ≢ front ++ codes ".csv"
 unfolding file_name
@@ -289,8 +297,7 @@ pub catalog_is_no_csv : (p front : List ℕ) → catalog_name p ≢ front ++ cod
 unfolding catalog_name
 catalog_is_no_csv p front e =
     let longer : (p ++ 47 ∷ codes "-catalog") ++ codes ".txt" ≡ front ++ codes ".csv" = append_assoc p (47 ∷ codes "-catalog") (codes ".txt") ∙ e in
-    let same : codes ".txt" ≡ codes ".csv" = same_tails (p ++ 47 ∷ codes "-catalog") front (codes ".txt") (codes ".csv") refl longer in
-    absurd (cc)
+    four_csv (p ++ 47 ∷ codes "-catalog") front (codes ".txt") refl refl longer
 
 -- ---- values files
 

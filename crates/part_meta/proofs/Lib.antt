@@ -10,4 +10,3 @@ pub mod PartLemmas
 pub mod PieceLemmas
 pub mod PlainLemmas
 pub mod PrintLemmas
-pub mod SchemaLaws

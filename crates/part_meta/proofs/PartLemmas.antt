@@ -4,7 +4,7 @@ use Rattle.std.specs.List.{All, AllPairs, AllByRecursion, flat_map}
 use Rattle.std.proofs.lemmas.List.{append_cancel_left, append-nil, get_or_append_left, get_or_at, length-append}
 use Rattle.std.proofs.lemmas.List.Concat.{flat_map-append}
 use Rattle.std.proofs.lemmas.List.Elements.{recursion_from_All}
-use Rattle.fb_types.proofs.TypeFacts.{type_named-told, type_named-type_name}
+use Rattle.fb_types.proofs.ItemFacts.{type_named-name, type_named-type_name}
 use Rattle.fb_types.specs.Names.{IsColumnName}
 use Rattle.fb_types.specs.Schemas.{IsSchema}
 use Rattle.fb_types.specs.SchemaText.{type_named}
@@ -282,7 +282,7 @@ behind_type None text label word cut found = λ ty is.
     let same : word ≡ type_name ty = append_cancel_left label word (type_name ty) (sym cut ∙ is) in
     let known : None ≡ Some ty = found ∙ ap type_named same ∙ type_named-type_name ty in
     absurd (cc)
-behind_type (Some ty) text label word cut found = cut ∙ ap (λ t. label ++ t) (sym (type_named-told word ty (sym found)))
+behind_type (Some ty) text label word cut found = cut ∙ ap (λ t. label ++ t) (sym (type_named-name word ty (sym found)))
 
 -- ---- where no part ends
 

@@ -41,7 +41,7 @@ made_whole head columns valid g = record {
   };
   more = g.more;
   spelled = ap (λ n. headed head.number head.rows n (flat_map column_lines (columns ++ g.more))) g.long
-    ∙ ap (λ t. headed head.number head.rows head.count t) (flat_map-append column_lines columns g.more);
+      ∙ ap (λ t. headed head.number head.rows head.count t) (flat_map-append column_lines columns g.more);
 }
 
 whole : (head : Head) (columns : List Column) → IsHead head → AreColumns columns → length columns ≤ head.count → Whole head columns
@@ -76,7 +76,7 @@ begins_column body valid column takes read rest cut =
       valid = w.valid;
       rest = rest ++ more;
       spelled = w.spelled ∙ ap (λ t. headed body.head.number body.head.rows body.head.count (t ++ more)) lines
-        ∙ ap (λ t. headed body.head.number body.head.rows body.head.count t) regrouped;
+          ∙ ap (λ t. headed body.head.number body.head.rows body.head.count t) regrouped;
     }
 
 begins_begun : (body : Body) → IsBody body → length body.columns.items < body.head.count → BeginsPart (body_lines body ++ column_begin_line ∷ [])

@@ -60,7 +60,6 @@ lines_in-joined [] h = refl
 lines_in-joined (l ∷ ls) h =
     rw h.0.is (lines_in-line h.0.text (joined ls) h.0.unbroken ∙ ap (λ t. line h.0.text ∷ t) (lines_in-joined ls h.1))
 
-
 pub line-injective : (a b : List ℕ) → line a ≡ line b → a ≡ b
 line-injective a b e = append_cancel_right a b (10 ∷ []) e
 

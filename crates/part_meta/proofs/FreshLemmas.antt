@@ -46,8 +46,8 @@ among_or_none : (x : List ℕ) (names : List (List ℕ)) → IsAmong x names ⊎
 among_or_none x [] = inr tt
 among_or_none x (y ∷ ys) =
     elim (cases_Bool (bytes_eq y x)) [
-      inl same ↦ inl (record { front = []; back = ys; joined = ap (λ t. t ∷ ys) ((bytes_eq-Decides y x).0 same) })
-    | inr other ↦ among_more x y ys (λ e. both_ways (bytes_eq y x) other ((bytes_eq-Decides y x).1 e)) (among_or_none x ys)
+      | inl same ↦ inl (record { front = []; back = ys; joined = ap (λ t. t ∷ ys) ((bytes_eq-Decides y x).0 same) })
+      | inr other ↦ among_more x y ys (λ e. both_ways (bytes_eq y x) other ((bytes_eq-Decides y x).1 e)) (among_or_none x ys)
     ]
 
 none_inserted : (x y : List ℕ) (front back : List (List ℕ)) → y ≢ x → NoneIs x (front ++ back) → NoneIs x (front ++ y ∷ back)
@@ -64,9 +64,9 @@ fresh_but_last n names a small f = record {
   number = f.number;
   small = omega (arith, f.small);
   none =
-    (let other : candidate (suc n) ≢ candidate f.number = λ e. (let same : suc n ≡ f.number = candidate-injective (suc n) f.number small (omega (arith, f.small)) e in absurd (omega (arith, f.small))) in
-    let P : List (List ℕ) → Type 0 = λ t. NoneIs (candidate f.number) t in
-    subst P (sym a.joined) (none_inserted (candidate f.number) (candidate (suc n)) a.front a.back other f.none));
+      (let other : candidate (suc n) ≢ candidate f.number = λ e. (let same : suc n ≡ f.number = candidate-injective (suc n) f.number small (omega (arith, f.small)) e in absurd (omega (arith, f.small))) in
+      let P : List (List ℕ) → Type 0 = λ t. NoneIs (candidate f.number) t in
+      subst P (sym a.joined) (none_inserted (candidate f.number) (candidate (suc n)) a.front a.back other f.none));
 }
 
 -- so many names don't hold one more candidate
@@ -75,9 +75,9 @@ fresh zero [] small few = record { number = 0; small = omega arith; none = tt }
 fresh zero (y ∷ ys) small few = absurd (omega arith)
 fresh (suc n) names small few =
     elim (among_or_none (candidate (suc n)) names) [
-      inl a ↦ fresh_but_last n names a small (fresh n (a.front ++ a.back) (omega arith)
-        (omega (arith, ap length a.joined, length-append a.front (candidate (suc n) ∷ a.back), length-append a.front a.back)))
-    | inr none ↦ record { number = suc n; small = omega arith; none = none }
+      | inl a ↦ fresh_but_last n names a small (fresh n (a.front ++ a.back) (omega arith)
+          (omega (arith, ap length a.joined, length-append a.front (candidate (suc n) ∷ a.back), length-append a.front a.back)))
+      | inr none ↦ record { number = suc n; small = omega arith; none = none }
     ]
 
 -- ---- a column with such a name

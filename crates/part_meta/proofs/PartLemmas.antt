@@ -133,10 +133,10 @@ takes_next body schema column more valid joined count =
       room = omega arith;
       named = subst IsNamed (read column) (named (length columns) column (omega arith));
       new = λ k d within.
-        let here : get_or (columns ++ column ∷ more) k d ≡ get_or columns k d = get_or_append_left columns (column ∷ more) d k within in
-        let A : Column → Type 0 = λ c. c.name ≢ (get_or (columns ++ column ∷ more) (length columns) d).name in
-        let B : Column → Type 0 = λ c. (get_or columns k d).name ≢ c.name in
-        subst B (read d) (subst A here (distinct k (length columns) d within (omega arith)));
+          let here : get_or (columns ++ column ∷ more) k d ≡ get_or columns k d = get_or_append_left columns (column ∷ more) d k within in
+          let A : Column → Type 0 = λ c. c.name ≢ (get_or (columns ++ column ∷ more) (length columns) d).name in
+          let B : Column → Type 0 = λ c. (get_or columns k d).name ≢ c.name in
+          subst B (read d) (subst A here (distinct k (length columns) d within (omega arith)));
     }
 
 pub next_column : (body : Body) (part : PartMeta) (l : List ℕ) (ls : List (List ℕ)) → IsPart part → body.head.count ≤ 255 → part_lines part ≡ body_lines body ++ l ∷ ls → NextColumn body (l ∷ ls)
@@ -157,17 +157,29 @@ next_column body part l ls valid few spelled =
 column_lines_are : (columns : List Column) → AllByRecursion (λ c. IsColumnName c.name) columns → AllByRecursion IsLine (flat_map column_lines columns)
 unfolding column_begin_line name_line type_line column_end_line
 column_lines_are [] named = tt
-column_lines_are (c ∷ cs) named =
-    (plain_line (codes "Begin Column") refl, (plain_labelled (codes "name = ") c.name refl (plain_name c.name named.0),
-    (plain_labelled (codes "data_type = ") (type_name c.ty) refl (plain_type c.ty), (plain_line (codes "End Column") refl, column_lines_are cs named.1))))
+column_lines_are (c ∷ cs) named = (
+  plain_line (codes "Begin Column") refl,
+  (
+    plain_labelled (codes "name = ") c.name refl (plain_name c.name named.0),
+    (plain_labelled (codes "data_type = ") (type_name c.ty) refl (plain_type c.ty), (plain_line (codes "End Column") refl, column_lines_are cs named.1)),
+  ),
+)
 
 pub part_lines_are : (p : PartMeta) → IsPart p → AllByRecursion IsLine (part_lines p)
 unfolding header_begin_line number_line rows_line count_line header_end_line
-part_lines_are p valid =
-    (plain_line (codes "BEGIN HEADER") refl, (plain_labelled (codes "Name = ") (folder_name p.number) refl (plain_folder p.number),
-    (plain_labelled (codes "Number_of_rows = ") (decimal p.rows) refl (plain_decimal p.rows (omega (arith, valid.few))),
-    (plain_labelled (codes "Number_of_columns = ") (decimal (length p.schema)) refl (plain_decimal (length p.schema) (omega (arith, valid.schema.few))),
-    (plain_line (codes "END HEADER") refl, column_lines_are p.schema (recursion_from_All (λ c. IsColumnName c.name) p.schema valid.schema.named))))))
+part_lines_are p valid = (
+  plain_line (codes "BEGIN HEADER") refl,
+  (
+    plain_labelled (codes "Name = ") (folder_name p.number) refl (plain_folder p.number),
+    (
+      plain_labelled (codes "Number_of_rows = ") (decimal p.rows) refl (plain_decimal p.rows (omega (arith, valid.few))),
+      (
+        plain_labelled (codes "Number_of_columns = ") (decimal (length p.schema)) refl (plain_decimal (length p.schema) (omega (arith, valid.schema.few))),
+        (plain_line (codes "END HEADER") refl, column_lines_are p.schema (recursion_from_All (λ c. IsColumnName c.name) p.schema valid.schema.named)),
+      ),
+    ),
+  ),
+)
 
 same_columns : (a b : List Column) → flat_map column_lines a ≡ flat_map column_lines b → a ≡ b
 same_columns [] [] e = refl

@@ -39,8 +39,9 @@ pub fn print_part(alloc: Global, part: &PartMeta) -> Result<Vec<u8>, AllocError>
 fn header(alloc: Global, number: u32, rows: u32, count: usize) -> Result<Vec<u8>, AllocError>
     ensures { IfOk result (λ text. text.items ≡ joined (header_lines number rows count)) }
 {
-    let numbers =
-        format!(in alloc; "Number_of_rows = {rows}\nNumber_of_columns = {count}\nEND HEADER\n")?;
+    let numbers = format!(in alloc;
+        "Number_of_rows = {rows}\nNumber_of_columns = {count}\nEND HEADER\n"
+    )?;
     let mut text = Vec::from_slice(alloc, b"BEGIN HEADER\n")?;
     push_number(&mut text, number)?;
     text.extend_from_slice(numbers.as_bytes())?;

@@ -12,14 +12,13 @@ returns-then-not-is c = λ b.
 
 pub returns : goal.returns
 returns c =
-    let pushed : c.push.new.self.items ≡ c.args.body.columns.items ++ c.args.column ∷ [] = c.in_ok-push.ensures.items in
-    (
+    let pushed : c.push.new.self.items ≡ c.args.body.columns.items ++ c.args.column ∷ [] = c.in_ok-push.ensures.items in (
       (
         record {
           head = c.requires.valid.head;
           columns = subst AreColumns (sym pushed) (AreColumns-push c.args.body.columns.items c.args.column c.requires.valid.columns c.requires.takes.named c.requires.takes.new);
         },
-        omega (arith, ap length pushed, length_push c.args.body.columns.items c.args.column, c.requires.takes.room)
+        omega (arith, ap length pushed, length_push c.args.body.columns.items c.args.column, c.requires.takes.room),
       ),
-      ended_body c.args.body c.args.column c.push.new.self.items c.args.text.now pushed (c.is.ensures.0 c.if-not-is.false)
+      ended_body c.args.body c.args.column c.push.new.self.items c.args.text.now pushed (c.is.ensures.0 c.if-not-is.false),
     )

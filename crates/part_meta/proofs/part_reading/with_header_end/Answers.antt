@@ -11,8 +11,7 @@ returns-then-not-is c = λ b.
 
 pub returns : goal.returns
 returns c =
-    let none = c.new-columns.ensures.items in
-    (
+    let none = c.new-columns.ensures.items in (
       (record { head = c.requires; columns = subst AreColumns (sym none) AreColumns-none }, omega (arith, ap length none)),
-      started_body c.args.head c.new-columns.result.items c.args.text.now none (c.is.ensures.0 c.if-not-is.false)
+      started_body c.args.head c.new-columns.result.items c.args.text.now none (c.is.ensures.0 c.if-not-is.false),
     )

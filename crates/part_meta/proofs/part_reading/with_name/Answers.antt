@@ -28,10 +28,9 @@ returns-then-is_new c =
     let P : List ℕ → Type 0 = λ name. AllOther c.args.body.columns.items name in
     let Q : List Column → Type 0 = λ columns. AllOther columns c.bytes.result.now in
     let new : AllOther c.args.body.columns.items c.in-Some.name = subst P c.bytes.ensures.value (subst Q c.as_slice.ensures.value (c.is_new.ensures.0 c.if-is_new.true)) in
-    let text : name_line c.in-Some.name ≡ line c.args.text.now = ap line (sym found.1) in
-    (
+    let text : name_line c.in-Some.name ≡ line c.args.text.now = ap line (sym found.1) in (
       (c.requires.valid, record { room = c.requires.room; named = found.0; new = new }),
-      ap (λ l. body_lines c.args.body ++ column_begin_line ∷ l ∷ []) text ∙ with_more (body_lines c.args.body) (column_begin_line ∷ []) (line c.args.text.now)
+      ap (λ l. body_lines c.args.body ++ column_begin_line ∷ l ∷ []) text ∙ with_more (body_lines c.args.body) (column_begin_line ∷ []) (line c.args.text.now),
     )
 
 pub returns-else-is_new : goal.returns-else-is_new

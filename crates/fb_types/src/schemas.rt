@@ -32,6 +32,7 @@ impl Model for Schema {
 }
 
 impl Schema {
+    /// The schema of these columns, 1 to 255 with distinct names.
     pub fn from_columns(columns: Vec<Column>) -> Schema
         requires { IsSchema columns.items }
         ensures { result ≡ columns.items }

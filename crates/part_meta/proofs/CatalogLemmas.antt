@@ -10,13 +10,13 @@ use Rattle.fb_types.specs.Schemas.{IsSchema}
 use Rattle.fb_types.specs.declared.types.ColType.TheVariants.{Int}
 use Rattle.fb_types.specs.SchemaText.{schema_text}
 use Rattle.fb_types.specs.declared.schemas.Column.{Column}
-use Rattle.part_meta.specs.Lines.{line, Begins}
+use Rattle.part_meta.specs.Lines.{IsLine, line, Begins}
 use Rattle.part_meta.specs.CatalogText.{IsCatalog, catalog_lines, catalog_text, next_line, part_line, schema_line, title_line}
 use Rattle.part_meta.specs.CatalogFront.{IsFront, front_lines, with_part}
 use Rattle.part_meta.specs.declared.catalog_reading.CatalogFront.{CatalogFront}
 use Rattle.part_meta.specs.declared.catalog_reading.CatalogFront.TheVariants.{Nothing, Title, Columns, Whole}
 use Rattle.part_meta.specs.declared.catalog.Catalog.{Catalog}
-use Rattle.part_meta.proofs.CutLemmas.{IsLine, line-injective, one_text}
+use Rattle.part_meta.proofs.CutLemmas.{line-injective, one_text}
 use Rattle.part_meta.proofs.PlainLemmas.{plain_decimal, plain_labelled, plain_line, plain_schema}
 use Rattle.fb_types.proofs.SchemaLaws.{schema_text-injective}
 use Rattle.part_meta.proofs.NumberLemmas.{label_told}
@@ -246,7 +246,7 @@ begins_front Title valid = record { value = empty_catalog one_column; valid = is
 begins_front (Columns columns) valid = begins-schema columns valid
 begins_front (Whole c) valid = begins-whole c valid
 
-pub front_is_short : (f : CatalogFront) → IsFront f → length (front_lines f) ≤ 1027
+pub front_is_short : (f : CatalogFront) → IsFront f → length (front_lines f) ≤ 1028
 front_is_short Nothing valid = lit≤ tt
 front_is_short Title valid = lit≤ tt
 front_is_short (Columns columns) valid = lit≤ tt

@@ -7,7 +7,7 @@ use Rattle.std.proofs.lemmas.Bool.{cases_lt}
 use Rattle.part_meta.specs.Faults.{Gives, Reads}
 use Rattle.part_meta.specs.declared.fault.MetaTextFault.{MetaTextFault}
 use Rattle.part_meta.specs.declared.fault.MetaTextFault.TheVariants.{At, OutOfMemory}
-use Rattle.part_meta.specs.Lines.{line, joined, begun_by, lines_in, IsUnbroken, Begins, IsFirstWrong}
+use Rattle.part_meta.specs.Lines.{IsLine, line, joined, begun_by, lines_in, IsUnbroken, Begins, IsFirstWrong}
 
 abbrev Unbroken : List ℕ → Type 0
 Unbroken bytes = AllByRecursion (λ b. b ≢ 10) bytes
@@ -47,12 +47,6 @@ feed_or b false bs e h = rw (e, begun_joined b (lines_in bs), h) refl
 pub joined-lines_in : (bytes : List ℕ) → joined (lines_in bytes) ≡ bytes
 joined-lines_in [] = refl
 joined-lines_in (b ∷ bs) = feed_or b (b == 10) bs refl (joined-lines_in bs)
-
--- one line with its line feed, and no other line feed in it
-pub record IsLine (l : List ℕ) : Type 0 where
-  pub text : List ℕ
-  pub is : l ≡ line text
-  pub unbroken : IsUnbroken text
 
 -- and a text of such lines is cut into them
 pub lines_in-joined : (ls : List (List ℕ)) → AllByRecursion IsLine ls → lines_in (joined ls) ≡ ls

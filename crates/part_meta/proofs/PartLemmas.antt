@@ -12,7 +12,7 @@ use Rattle.fb_types.specs.Types.{type_name}
 use Rattle.fb_types.specs.declared.schemas.Column.{Column}
 use Rattle.fb_types.specs.declared.types.ColType.{ColType}
 use Rattle.part_meta.specs.FileNames.{folder_name, four_digits}
-use Rattle.part_meta.specs.Lines.{line, Begins}
+use Rattle.part_meta.specs.Lines.{IsLine, line, Begins}
 use Rattle.part_meta.specs.PartText.{IsPart, column_begin_line, column_end_line, column_lines, count_line, header_begin_line, header_end_line, name_line, number_line, part_lines, part_text, rows_line, type_line}
 use Rattle.part_meta.specs.PartFront.{IsBody, Takes, body_lines, head_lines, open_lines}
 use Rattle.part_meta.specs.declared.part_reading.Open.{Open}
@@ -20,7 +20,7 @@ use Rattle.part_meta.specs.declared.part_reading.Open.TheVariants as open_
 use Rattle.part_meta.specs.declared.part.PartMeta.{PartMeta}
 use Rattle.part_meta.specs.declared.part_reading.Head.{Head}
 use Rattle.part_meta.specs.declared.part_reading.Body.{Body}
-use Rattle.part_meta.proofs.CutLemmas.{IsLine, line-injective, one_text}
+use Rattle.part_meta.proofs.CutLemmas.{line-injective, one_text}
 use Rattle.part_meta.proofs.DigitLemmas.{four_digits-injective}
 use Rattle.part_meta.proofs.NumberLemmas.{label_told}
 use Rattle.part_meta.proofs.PlainLemmas.{plain_decimal, plain_folder, plain_labelled, plain_line, plain_name, plain_type}

@@ -8,6 +8,7 @@ mod lines;
 mod names;
 mod part;
 mod part_reading;
+mod reading;
 #[cfg(test)]
 mod tests;
 

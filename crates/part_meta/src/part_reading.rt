@@ -9,13 +9,14 @@ ghost use Rattle.part_meta.specs.FileNames.{folder_name, four_digits};
 ghost use Rattle.part_meta.specs.Lines.{Ends, GoesOn};
 ghost use Rattle.part_meta.specs.PartText.{IsPart, part_lines, part_text};
 ghost use Rattle.part_meta.specs.PartFront.{IsBody, IsFront, IsHead, Takes, front_lines};
-ghost use Rattle.part_meta.specs.Faults.{Gives, IsFaultOf, Reads};
+ghost use Rattle.part_meta.specs.Faults.{Gives, IsFaultOf};
 ghost use lib.Chars.{codes};
 
 use crate::fault::MetaTextFault;
-use crate::lines::{behind, is, number_within, split_line};
+use crate::lines::{behind, is, number_within};
 use crate::names::digit;
 use crate::part::PartMeta;
+use crate::reading::{Front, read};
 use fb_types::{ColName, ColType, Column, Schema};
 use std::alloc::{AllocError, Global};
 
@@ -63,42 +64,48 @@ pub fn parse_part(alloc: Global, bytes: &[u8]) -> Result<PartMeta, MetaTextFault
 
     ensures fault { IfErr result (IsFaultOf IsPart part_lines bytes.now) }
 {
-    read(alloc, bytes)
+    read::<PartFront>(alloc, bytes)
 }
 
-fn read(alloc: Global, bytes: &[u8]) -> Result<PartMeta, MetaTextFault>
-    ensures { Reads IsPart part_lines bytes.now result }
-{
-    let mut front = PartFront::Nothing;
-    let mut rest = bytes;
-    let mut number = 1;
-    while let Some((text, after)) = split_line(rest) {
-        match with_line(alloc, front, text) {
-            Ok(Some(longer)) => front = longer,
-            Ok(None) => return Err(MetaTextFault::At { line: number }),
-            Err(_) => return Err(MetaTextFault::OutOfMemory),
+impl Front for PartFront {
+    type Whole = PartMeta;
+
+    ghost is_of = { IsPart };
+
+    ghost lines = { part_lines };
+
+    ghost is_front = { IsFront };
+
+    ghost front_lines = { front_lines };
+
+    fn nothing() -> PartFront {
+        PartFront::Nothing
+    }
+
+    fn with_line(self, alloc: Global, text: &[u8]) -> Result<Option<PartFront>, AllocError> {
+        match self {
+            PartFront::Nothing => Ok(with_begin(text)),
+            PartFront::Begun => Ok(with_number(text)),
+            PartFront::Numbered(number) => Ok(with_rows(number, text)),
+            PartFront::Counted(number, rows) => Ok(with_count(number, rows, text)),
+            PartFront::Headed(head) => Ok(with_header_end(alloc, head, text)),
+            PartFront::InColumns(body, column) => match column {
+                Open::Nothing => Ok(with_column(body, text)),
+                Open::Begun => with_name(alloc, body, text),
+                Open::Named(name) => Ok(with_type(body, name, text)),
+                Open::Typed(column) => with_column_end(body, column, text),
+            },
         }
-        rest = after;
-        number += 1;
     }
-    if !rest.is_empty() {
-        return Err(MetaTextFault::At { line: number });
-    }
-    match whole(front) {
-        Some(part) => Ok(part),
-        None => Err(MetaTextFault::At { line: number }),
-    }
-}
 
-/// The part, where its last line was read.
-fn whole(front: PartFront) -> Option<PartMeta>
-    requires { IsFront front }
-    ensures { Ends IsPart part_lines front_lines front result }
-{
-    match front {
-        PartFront::InColumns(body, column) => whole_column(body, column),
-        _ => None,
+    fn whole(self) -> Option<PartMeta> {
+        match self {
+            PartFront::InColumns(body, column) => whole_column(body, column),
+            _ => None,
+        }
     }
+
+    fn laws() {}
 }
 
 fn whole_column(body: Body, column: Open) -> Option<PartMeta>
@@ -124,26 +131,6 @@ fn whole_body(body: Body) -> Option<PartMeta>
         rows: body.head.rows,
         schema: Schema::from_columns(body.columns),
     })
-}
-
-/// What the lines say with one more; `None` where no part's text goes on so.
-fn with_line(alloc: Global, front: PartFront, text: &[u8]) -> Result<Option<PartFront>, AllocError>
-    requires { IsFront front }
-    ensures { IfOk result (GoesOn IsPart part_lines IsFront front_lines front text.now) }
-{
-    match front {
-        PartFront::Nothing => Ok(with_begin(text)),
-        PartFront::Begun => Ok(with_number(text)),
-        PartFront::Numbered(number) => Ok(with_rows(number, text)),
-        PartFront::Counted(number, rows) => Ok(with_count(number, rows, text)),
-        PartFront::Headed(head) => Ok(with_header_end(alloc, head, text)),
-        PartFront::InColumns(body, column) => match column {
-            Open::Nothing => Ok(with_column(body, text)),
-            Open::Begun => with_name(alloc, body, text),
-            Open::Named(name) => Ok(with_type(body, name, text)),
-            Open::Typed(column) => with_column_end(body, column, text),
-        },
-    }
 }
 
 fn with_begin(text: &[u8]) -> Option<PartFront>

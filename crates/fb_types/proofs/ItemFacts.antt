@@ -64,6 +64,10 @@ type_word ULong = (refl, (lit≤ tt), refl)
 type_word Category = (refl, (lit≤ tt), refl)
 type_word Text = (refl, (lit≤ tt), refl)
 
+-- a type's word names it, and nothing else does
+pub type_named-type_name : (ty : ColType) → type_named (type_name ty) ≡ Some ty
+type_named-type_name ty = (type_word ty).2
+
 find_passes : (p : ColType → Bool) (types : List ColType) (ty : ColType) → find p types ≡ Some ty → p ty ≡ true
 find_passes p [] ty is = cc
 find_passes p (first ∷ types) ty is = by (p first) refl is (λ found. find_passes p types ty found)
@@ -72,7 +76,7 @@ find_passes p (first ∷ types) ty is = by (p first) refl is (λ found. find_pas
     by true same found later = let here : first ≡ ty = cc in subst (λ t. p t ≡ true) here same
     by false same found later = later found
 
-type_named-name : (word : List ℕ) (ty : ColType) → type_named word ≡ Some ty → type_name ty ≡ word
+pub type_named-name : (word : List ℕ) (ty : ColType) → type_named word ≡ Some ty → type_name ty ≡ word
 unfolding type_named
 type_named-name word ty is = (bytes_eq-Decides (type_name ty) word).0 (find_passes (λ t. bytes_eq (type_name t) word) TYPES ty is)
 

@@ -32,7 +32,8 @@ impl Model for Schema {
 }
 
 impl Schema {
-    pub(crate) fn from_columns(columns: Vec<Column>) -> Schema
+    /// The schema of these columns, 1 to 255 with distinct names.
+    pub fn from_columns(columns: Vec<Column>) -> Schema
         requires { IsSchema columns.items }
         ensures { result ≡ columns.items }
     {

@@ -10,15 +10,15 @@ use Rattle.fb_types.specs.Schemas.{IsSchema}
 use Rattle.fb_types.specs.declared.types.ColType.TheVariants.{Int}
 use Rattle.fb_types.specs.SchemaText.{schema_text}
 use Rattle.fb_types.specs.declared.schemas.Column.{Column}
-use Rattle.part_meta.specs.Lines.{line, Begins}
+use Rattle.part_meta.specs.Lines.{IsLine, line, Begins}
 use Rattle.part_meta.specs.CatalogText.{IsCatalog, catalog_lines, catalog_text, next_line, part_line, schema_line, title_line}
 use Rattle.part_meta.specs.CatalogFront.{IsFront, front_lines, with_part}
 use Rattle.part_meta.specs.declared.catalog_reading.CatalogFront.{CatalogFront}
 use Rattle.part_meta.specs.declared.catalog_reading.CatalogFront.TheVariants.{Nothing, Title, Columns, Whole}
 use Rattle.part_meta.specs.declared.catalog.Catalog.{Catalog}
-use Rattle.part_meta.proofs.CutLemmas.{IsLine, line-injective, one_text}
+use Rattle.part_meta.proofs.CutLemmas.{line-injective, one_text}
 use Rattle.part_meta.proofs.PlainLemmas.{plain_decimal, plain_labelled, plain_line, plain_schema}
-use Rattle.part_meta.proofs.SchemaLaws.{schema_text-injective}
+use Rattle.fb_types.proofs.SchemaLaws.{schema_text-injective}
 use Rattle.part_meta.proofs.NumberLemmas.{label_told}
 
 abbrev pub BeginsCatalog : List (List ℕ) → Type 0
@@ -169,8 +169,8 @@ is_above_all c part h = λ k d within.
 pub above_all : (xs : List ℕ) (n : ℕ) → AllPairs (λ a b. a < b) xs → ((d : ℕ) → 0 < length xs → get_or xs (length xs - 1) d < n) → All (λ x. x < n) xs
 above_all xs n rising last = λ k d within.
     elim (cases_lt k (length xs - 1)) [
-      inl before ↦ (let pair : get_or xs k d < get_or xs (length xs - 1) d = rising k (length xs - 1) d before (omega arith) in omega (arith, pair, last d (omega arith)))
-    | inr at ↦ (let same : k ≡ length xs - 1 = omega arith in omega (arith, ap (λ i. get_or xs i d) same, last d (omega arith)))
+      | inl before ↦ (let pair : get_or xs k d < get_or xs (length xs - 1) d = rising k (length xs - 1) d before (omega arith) in omega (arith, pair, last d (omega arith)))
+      | inr at ↦ (let same : k ≡ length xs - 1 = omega arith in omega (arith, ap (λ i. get_or xs i d) same, last d (omega arith)))
     ]
 
 -- ---- catalogs that begin so
@@ -209,7 +209,7 @@ started columns next parts text valid small none is =
         rising = λ i j d low high. absurd (omega (arith, high));
         below = λ k d within. absurd (omega (arith, within));
       },
-      ap (λ t. title_line ∷ schema_line columns ∷ line t ∷ []) (sym is)
+      ap (λ t. title_line ∷ schema_line columns ∷ line t ∷ []) (sym is),
     )
 
 pub pushed : (c : Catalog) (part : ℕ) (parts text : List ℕ) → parts ≡ c.parts ++ part ∷ [] → IsCatalog (with_part c part) → text ≡ codes "part " ++ decimal part
@@ -246,7 +246,7 @@ begins_front Title valid = record { value = empty_catalog one_column; valid = is
 begins_front (Columns columns) valid = begins-schema columns valid
 begins_front (Whole c) valid = begins-whole c valid
 
-pub front_is_short : (f : CatalogFront) → IsFront f → length (front_lines f) ≤ 1027
+pub front_is_short : (f : CatalogFront) → IsFront f → length (front_lines f) ≤ 1028
 front_is_short Nothing valid = lit≤ tt
 front_is_short Title valid = lit≤ tt
 front_is_short (Columns columns) valid = lit≤ tt
@@ -261,9 +261,13 @@ part_lines_are (n ∷ ns) h = (plain_labelled (codes "part ") (decimal n) refl (
 
 pub catalog_lines_are : (c : Catalog) → IsCatalog c → AllByRecursion IsLine (catalog_lines c)
 unfolding title_line schema_line next_line
-catalog_lines_are c valid =
-    (plain_line (codes "fastbit catalog 1") refl, (plain_labelled (codes "schema ") (schema_text c.schema) refl (plain_schema c.schema valid.schema),
-    (plain_labelled (codes "next ") (decimal c.next) refl (plain_decimal c.next (omega (arith, valid.next))), part_lines_are c.parts (small_parts c valid))))
+catalog_lines_are c valid = (
+  plain_line (codes "fastbit catalog 1") refl,
+  (
+    plain_labelled (codes "schema ") (schema_text c.schema) refl (plain_schema c.schema valid.schema),
+    (plain_labelled (codes "next ") (decimal c.next) refl (plain_decimal c.next (omega (arith, valid.next))), part_lines_are c.parts (small_parts c valid)),
+  ),
+)
 
 schema_line-injective : (a b : List Column) → IsSchema a → IsSchema b → schema_line a ≡ schema_line b → a ≡ b
 unfolding schema_line

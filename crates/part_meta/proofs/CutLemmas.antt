@@ -7,7 +7,7 @@ use Rattle.std.proofs.lemmas.Bool.{cases_lt}
 use Rattle.part_meta.specs.Faults.{Gives, Reads}
 use Rattle.part_meta.specs.declared.fault.MetaTextFault.{MetaTextFault}
 use Rattle.part_meta.specs.declared.fault.MetaTextFault.TheVariants.{At, OutOfMemory}
-use Rattle.part_meta.specs.Lines.{line, joined, begun_by, lines_in, IsUnbroken, Begins, IsFirstWrong}
+use Rattle.part_meta.specs.Lines.{IsLine, line, joined, begun_by, lines_in, IsUnbroken, Begins, IsFirstWrong}
 
 abbrev Unbroken : List ℕ → Type 0
 Unbroken bytes = AllByRecursion (λ b. b ≢ 10) bytes
@@ -48,18 +48,11 @@ pub joined-lines_in : (bytes : List ℕ) → joined (lines_in bytes) ≡ bytes
 joined-lines_in [] = refl
 joined-lines_in (b ∷ bs) = feed_or b (b == 10) bs refl (joined-lines_in bs)
 
--- one line with its line feed, and no other line feed in it
-pub record IsLine (l : List ℕ) : Type 0 where
-  pub text : List ℕ
-  pub is : l ≡ line text
-  pub unbroken : IsUnbroken text
-
 -- and a text of such lines is cut into them
 pub lines_in-joined : (ls : List (List ℕ)) → AllByRecursion IsLine ls → lines_in (joined ls) ≡ ls
 lines_in-joined [] h = refl
 lines_in-joined (l ∷ ls) h =
     rw h.0.is (lines_in-line h.0.text (joined ls) h.0.unbroken ∙ ap (λ t. line h.0.text ∷ t) (lines_in-joined ls h.1))
-
 
 pub line-injective : (a b : List ℕ) → line a ≡ line b → a ≡ b
 line-injective a b e = append_cancel_right a b (10 ∷ []) e

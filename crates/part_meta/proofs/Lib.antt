@@ -1,8 +1,12 @@
+pub mod BeginLemmas
 pub mod CatalogLemmas
 pub mod CutLemmas
+pub mod DigitLemmas
 pub mod FileNameLemmas
+pub mod FreshLemmas
 pub mod LineLemmas
 pub mod NumberLemmas
+pub mod PartLemmas
 pub mod PieceLemmas
 pub mod PlainLemmas
-pub mod SchemaLaws
+pub mod PrintLemmas

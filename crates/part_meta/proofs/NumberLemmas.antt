@@ -29,8 +29,8 @@ more_digits (d ∷ ds) some each first = above_zero d ds first (digit_at (d ∷ 
 pub decimal_begins_plainly : (n : ℕ) → n < 2 ^ 64 → begins_plainly (decimal n) ≡ true
 decimal_begins_plainly n small =
     elim (cases_lt n 10) [
-      inl one ↦ (let is : decimal n ≡ (48 + n) ∷ [] = decimal_digit n one in rw is (one_digit n one))
-    | inr many ↦ (let numeral = decimal_is_IsNumeral n small in more_digits (decimal n) numeral.0.0 numeral.0.1 (first_decimal n (omega arith) small))
+      | inl one ↦ (let is : decimal n ≡ (48 + n) ∷ [] = decimal_digit n one in rw is (one_digit n one))
+      | inr many ↦ (let numeral = decimal_is_IsNumeral n small in more_digits (decimal n) numeral.0.0 numeral.0.1 (first_decimal n (omega arith) small))
     ]
 
 no_plus : (d : ℕ) (ds : List ℕ) → is_ascii_digit d ≡ true → without_leading_plus (d ∷ ds) ≡ d ∷ ds

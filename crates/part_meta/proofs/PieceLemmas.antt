@@ -2,6 +2,7 @@
 use Rattle.std.proofs.Common.{◌≡◌, ◌≢◌, ◌<◌, ◌≤◌, ◌+◌, ◌/◌, ◌%◌, ◌&&◌, not, ℕ, Bool, true, false, List, [], ◌∷◌, ◌++◌, length, IsTrue, Option, Some, None, IsNone, IfSome, option_copied, unwrap_or, Bor, refl, sym, ap, subst, arith, nat_le, leb-true, length-append}
 use Rattle.std.specs.List.{AllByRecursion, join_with_byte, list_all}
 use Rattle.std.specs.Str.{IsUtf8}
+use Rattle.std.proofs.lemmas.Bool.{and_parts}
 use Rattle.std.proofs.lemmas.Bool.Decides.{nat_tests}
 use Rattle.std.proofs.lemmas.List.{append-nil}
 use Rattle.std.proofs.lemmas.List.Elements.{All-from_recursion}
@@ -16,7 +17,7 @@ use Rattle.part_meta.specs.declared.names.FileKind.{FileKind}
 use Rattle.part_meta.specs.declared.names.FileKind.TheVariants.{PartText, Values, Mask, Words, Starts, Index}
 use Rattle.part_meta.specs.FileNames.{catalog_name, four_digits, part_folder, leaf, file_name}
 use Rattle.part_meta.specs.LeafParts.{suffix}
-use Rattle.part_meta.proofs.FileNameLemmas.{and_parts, has_bytes}
+use Rattle.part_meta.proofs.FileNameLemmas.{has_bytes}
 
 -- bytes of which pieces are made
 abbrev pub PieceBytes : List ℕ → Type 0

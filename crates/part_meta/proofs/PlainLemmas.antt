@@ -18,8 +18,7 @@ use Rattle.fb_types.specs.declared.schemas.Column.{Column}
 use Rattle.fb_types.specs.declared.types.ColType.{ColType}
 use Rattle.fb_types.specs.declared.types.ColType.TheVariants.{Byte, UByte, Short, UShort, Int, UInt, Long, ULong, Category, Text}
 use Rattle.part_meta.specs.FileNames.{folder_name}
-use Rattle.part_meta.specs.Lines.{IsUnbroken, line}
-use Rattle.part_meta.proofs.CutLemmas.{IsLine}
+use Rattle.part_meta.specs.Lines.{IsLine, IsUnbroken, line}
 
 abbrev pub is_plain : ℕ → Bool
 is_plain b = nat_lt b 128 && not (b == 10)

@@ -1,6 +1,7 @@
 -- The names of a dataset's files, under its path.
-use Rattle.std.specs.Prelude.{◌≡◌, ◌⊎◌, ℕ, ◌+◌, ◌/◌, ◌%◌, Option, Some, List, [], ◌∷◌, ◌++◌, unwrap_or}
+use Rattle.std.specs.Prelude.{◌≡◌, ◌⊎◌, ℕ, ◌+◌, ◌/◌, ◌%◌, Option, Some, List, [], ◌∷◌, ◌++◌, unwrap_or, IsNone, IsSomeAnd}
 use lib.Chars.{codes}
+use Rattle.fb_types.specs.Names.{IsColumnName}
 use Rattle.part_meta.specs.declared.names.FileKind.{FileKind}
 use Rattle.part_meta.specs.declared.names.FileKind.TheVariants.{PartText, Values, Mask, Words, Starts, Index}
 
@@ -34,6 +35,15 @@ leaf Index name = name ++ codes ".idx"
 
 unfoldable pub file_name : List ℕ → ℕ → Option (List ℕ) → FileKind → List ℕ
 file_name dir part name kind = under (part_folder dir part) (leaf kind (unwrap_or name []))
+
+-- a file of that kind is of a column of that name; only the part's own text is of none
+abbrev pub IsCalled : FileKind → Option (List ℕ) → Type 0
+IsCalled PartText name = IsNone name
+IsCalled Values name = IsSomeAnd name IsColumnName
+IsCalled Mask name = IsSomeAnd name IsColumnName
+IsCalled Words name = IsSomeAnd name IsColumnName
+IsCalled Starts name = IsSomeAnd name IsColumnName
+IsCalled Index name = IsSomeAnd name IsColumnName
 
 -- the values of a column
 abbrev pub values_name : List ℕ → ℕ → List ℕ → List ℕ

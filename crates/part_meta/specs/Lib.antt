@@ -3,6 +3,7 @@ pub mod Lines
 pub mod CatalogText
 pub mod CatalogFront
 pub mod PartText
+pub mod PartFront
 pub mod Faults
 pub mod Numbers
 pub mod LeafParts

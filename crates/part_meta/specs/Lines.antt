@@ -23,6 +23,12 @@ lines_in (b ∷ bs) = if b == 10 then (10 ∷ []) ∷ lines_in bs else begun_by 
 abbrev pub IsUnbroken : List ℕ → Type 0
 IsUnbroken bytes = All (λ b. b ≢ 10) bytes
 
+-- one line with its line feed, and no other line feed in it
+pub record IsLine (l : List ℕ) : Type 0 where
+  pub text : List ℕ
+  pub is : l ≡ line text
+  pub unbroken : IsUnbroken text
+
 -- A grammar is a set of values and the lines that spell each. Some text of it begins with these lines.
 pub record Begins {A : Type 0} (IsOf : A → Type 0) (lines : A → List (List ℕ)) (front : List (List ℕ)) : Type 0 where
   pub value : A

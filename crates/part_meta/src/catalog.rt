@@ -1,7 +1,7 @@
 ghost use Rattle.std.specs.Prelude.{◌≡◌, ◌++◌, IfOk, OnOk, decimal, string_bytes};
 ghost use Rattle.std.specs.List.{flat_map};
 ghost use lib.Chars.{codes};
-ghost use Rattle.part_meta.specs.CatalogText.{catalog_text, part_line};
+ghost use Rattle.part_meta.specs.CatalogText.{IsCatalog, catalog_text, part_line};
 ghost use Rattle.part_meta.specs.Lines.{line};
 
 use fb_types::{Schema, print_schema};
@@ -15,6 +15,11 @@ pub struct Catalog {
     pub next: u32,
     pub parts: Items<u32>,
 }
+
+/// Different catalogs have different texts.
+pub fn one_catalog()
+    ensures { (a b : Catalog) → IsCatalog a → IsCatalog b → catalog_text a ≡ catalog_text b → a ≡ b }
+{}
 
 /// The catalog's text.
 pub fn print_catalog(alloc: Global, catalog: &Catalog) -> Result<Vec<u8>, AllocError>

@@ -5,14 +5,15 @@ ghost use Rattle.std.specs.List.{All, AllPairs};
 ghost use Rattle.fb_types.specs.declared.schemas.Column.{Column};
 ghost use Rattle.fb_types.specs.Schemas.{IsSchema};
 ghost use Rattle.fb_types.specs.SchemaText.{schema_text};
-ghost use Rattle.part_meta.specs.Lines.{Ends, GoesOn, line};
+ghost use Rattle.part_meta.specs.Lines.{GoesOn};
 ghost use Rattle.part_meta.specs.CatalogText.{IsCatalog, catalog_lines, catalog_text, schema_line};
 ghost use Rattle.part_meta.specs.CatalogFront.{IsFront, front_lines, with_part};
-ghost use Rattle.part_meta.specs.Faults.{Gives, IsFaultOf, Reads};
+ghost use Rattle.part_meta.specs.Faults.{Gives, IsFaultOf};
 
 use crate::catalog::Catalog;
 use crate::fault::MetaTextFault;
-use crate::lines::{behind, labelled_number, split_line};
+use crate::lines::{behind, is, labelled_number};
+use crate::reading::{Front, read};
 use fb_types::{MetaFault, Schema, parse_schema, print_schema};
 use sqlite_items::Items;
 use std::alloc::{AllocError, Global};
@@ -35,65 +36,47 @@ pub fn parse_catalog(alloc: Global, bytes: &[u8]) -> Result<Catalog, MetaTextFau
 
     ensures fault { IfErr result (IsFaultOf IsCatalog catalog_lines bytes.now) }
 {
-    read(alloc, bytes)
+    read::<CatalogFront>(alloc, bytes)
 }
 
-fn read(alloc: Global, bytes: &[u8]) -> Result<Catalog, MetaTextFault>
-    ensures { Reads IsCatalog catalog_lines bytes.now result }
-{
-    let mut front = CatalogFront::Nothing;
-    let mut rest = bytes;
-    let mut number = 1;
-    while let Some((text, after)) = split_line(rest) {
-        match with_line(alloc, front, text) {
-            Ok(Some(longer)) => front = longer,
-            Ok(None) => return Err(MetaTextFault::At { line: number }),
-            Err(_) => return Err(MetaTextFault::OutOfMemory),
+impl Front for CatalogFront {
+    type Whole = Catalog;
+
+    ghost is_of = { IsCatalog };
+
+    ghost lines = { catalog_lines };
+
+    ghost is_front = { IsFront };
+
+    ghost front_lines = { front_lines };
+
+    fn nothing() -> CatalogFront {
+        CatalogFront::Nothing
+    }
+
+    fn with_line(self, alloc: Global, text: &[u8]) -> Result<Option<CatalogFront>, AllocError> {
+        match self {
+            CatalogFront::Nothing => Ok(with_title(text)),
+            CatalogFront::Title => with_schema(alloc, text),
+            CatalogFront::Columns(schema) => Ok(with_next(alloc, schema, text)),
+            CatalogFront::Whole(catalog) => with_one_part(catalog, text),
         }
-        rest = after;
-        number += 1;
     }
-    if !rest.is_empty() {
-        return Err(MetaTextFault::At { line: number });
-    }
-    match whole(front) {
-        Some(catalog) => Ok(catalog),
-        None => Err(MetaTextFault::At { line: number }),
-    }
-}
 
-/// The catalog, where its last line was read.
-fn whole(front: CatalogFront) -> Option<Catalog>
-    requires { IsFront front }
-    ensures { Ends IsCatalog catalog_lines front_lines front result }
-{
-    match front {
-        CatalogFront::Whole(catalog) => Some(catalog),
-        _ => None,
+    fn whole(self) -> Option<Catalog> {
+        match self {
+            CatalogFront::Whole(catalog) => Some(catalog),
+            _ => None,
+        }
     }
-}
 
-/// What the lines say with one more; `None` where no catalog goes on so.
-fn with_line(
-    alloc: Global,
-    front: CatalogFront,
-    text: &[u8],
-) -> Result<Option<CatalogFront>, AllocError>
-    requires { IsFront front }
-    ensures { IfOk result (GoesOn IsCatalog catalog_lines IsFront front_lines front text.now) }
-{
-    match front {
-        CatalogFront::Nothing => Ok(with_title(text)),
-        CatalogFront::Title => with_schema(alloc, text),
-        CatalogFront::Columns(schema) => Ok(with_next(alloc, schema, text)),
-        CatalogFront::Whole(catalog) => with_one_part(catalog, text),
-    }
+    fn laws() {}
 }
 
 fn with_title(text: &[u8]) -> Option<CatalogFront>
     ensures { GoesOn IsCatalog catalog_lines IsFront front_lines CatalogFront.Nothing text.now result }
 {
-    if text == b"fastbit catalog 1".as_slice() {
+    if is(text, "fastbit catalog 1") {
         Some(CatalogFront::Title)
     } else {
         None

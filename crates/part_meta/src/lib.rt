@@ -8,12 +8,13 @@ mod lines;
 mod names;
 mod part;
 mod part_reading;
+mod reading;
 #[cfg(test)]
 mod tests;
 
-pub use catalog::{Catalog, print_catalog};
+pub use catalog::{Catalog, one_catalog, print_catalog};
 pub use catalog_reading::parse_catalog;
 pub use fault::MetaTextFault;
-pub use names::{FileKind, catalog_of, file_of};
-pub use part::PartMeta;
-pub use part_reading::{parse_part, print_part};
+pub use names::{FileKind, catalog_of, different_names, file_of};
+pub use part::{PartMeta, one_part, print_part};
+pub use part_reading::parse_part;

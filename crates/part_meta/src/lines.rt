@@ -1,6 +1,6 @@
 //! Lines of a text, and the numbers in them.
 
-ghost use Rattle.std.specs.Prelude.{◌≡◌, ◌≢◌, ℕ, ◌^◌, ◌<◌, List, ◌++◌, length, take, slice_index, MatchOption, decimal};
+ghost use Rattle.std.specs.Prelude.{◌≡◌, ◌≢◌, ℕ, ◌^◌, ◌<◌, ◌≤◌, List, ◌++◌, length, take, slice_index, MatchOption, IsTrue, ◌↔◌, decimal};
 ghost use Rattle.part_meta.specs.Lines.{IsUnbroken, line};
 ghost use Rattle.part_meta.specs.Numbers.{begins_plainly};
 
@@ -12,6 +12,13 @@ pub(crate) fn split_line(bytes: &[u8]) -> Option<(&[u8], &[u8])>
         Some(at) => Some((&bytes[..at], &bytes[at + 1..])),
         None => None,
     }
+}
+
+/// Whether the line's text is these words.
+pub(crate) fn is(text: &[u8], words: &str) -> bool
+    ensures { IsTrue result ↔ (text.now ≡ words.now) }
+{
+    text == words.as_bytes()
 }
 
 /// Where the first line feed stands.
@@ -29,6 +36,22 @@ pub(crate) fn labelled_number(text: &[u8], label: &[u8]) -> Option<u32>
         Some(digits) => decimal_number(digits),
         None => None,
     }
+}
+
+/// The number from 1 to `most` that stands behind the label.
+pub(crate) fn number_within(text: &[u8], label: &[u8], most: u32) -> Option<u32>
+    ensures { MatchOption result ((n : ℕ) → 1 ≤ n → n ≤ most → text.now ≢ label.now ++ decimal n) (λ n. (1 ≤ n) × (n ≤ most) × (text.now ≡ label.now ++ decimal n)) }
+{
+    let Some(number) = labelled_number(text, label) else {
+        return None;
+    };
+    if number == 0 {
+        return None;
+    }
+    if number > most {
+        return None;
+    }
+    Some(number)
 }
 
 /// What stands behind the label, where the text begins with it.

@@ -1,9 +1,10 @@
-ghost use Rattle.std.specs.Prelude.{◌≡◌, ◌<◌, ◌+◌, ◌*◌, ◌/◌, ◌%◌, ◌++◌, ◌↔◌, [], OnOk, IfOk, IfSome, IsNone, option_copied, unwrap_or};
+ghost use Rattle.std.specs.Prelude.{◌≡◌, ◌≢◌, ℕ, List, Option, ◌<◌, ◌+◌, ◌*◌, ◌/◌, ◌%◌, ◌++◌, ◌↔◌, [], OnOk, IfOk, IfSome, IsNone, option_copied, unwrap_or};
 ghost use Rattle.fb_outside.specs.Names.{IsFileName, IsPath};
 ghost use Rattle.fb_types.specs.Names.{IsColumnName};
-ghost use Rattle.part_meta.specs.FileNames.{catalog_name, file_name, leaf, part_folder};
+ghost use Rattle.part_meta.specs.FileNames.{IsCalled, catalog_name, file_name, leaf, part_folder};
 ghost use Rattle.part_meta.specs.LeafParts.{suffix};
 ghost use Rattle.part_meta.specs.declared.names.FileKind.TheVariants.{PartText};
+ghost use lib.Chars.{codes};
 
 use fb_outside::FileName;
 use fb_types::ColName;
@@ -19,6 +20,16 @@ pub enum FileKind {
     Starts,
     Index,
 }
+
+/// Files of different arguments have different names, and none ends in `.csv`.
+pub fn different_names()
+    ensures files { (p q : List ℕ) (a b : ℕ) (m n : Option (List ℕ)) (j k : FileKind) → a < 4096 → b < 4096 → IsCalled j m → IsCalled k n
+        → file_name p a m j ≡ file_name q b n k → (p ≡ q) × (a ≡ b) × (m ≡ n) × (j ≡ k) }
+    ensures catalogs { (p q : List ℕ) → catalog_name p ≡ catalog_name q → p ≡ q }
+    ensures apart { (p q : List ℕ) (a : ℕ) (m : Option (List ℕ)) (j : FileKind) → IsCalled j m → file_name p a m j ≢ catalog_name q }
+    ensures no_records { (p front : List ℕ) (a : ℕ) (m : Option (List ℕ)) (j : FileKind) → IsCalled j m → file_name p a m j ≢ front ++ codes ".csv" }
+    ensures no_record_catalog { (p front : List ℕ) → catalog_name p ≢ front ++ codes ".csv" }
+{}
 
 /// The name of a part's text, or of a column's file of that kind.
 pub fn file_of(
@@ -69,7 +80,7 @@ fn push_folder(text: &mut Vec<u8>, dir: &FileName, part: u32) -> Result<(), Allo
 }
 
 /// The last decimal digit of a number, as ASCII.
-fn digit(n: u32) -> u8
+pub(crate) fn digit(n: u32) -> u8
     ensures { result ≡ 48 + n % 10 }
 {
     b'0' + (n % 10) as u8

@@ -5,7 +5,7 @@ use Rattle.std.proofs.lemmas.Str.{IsUtf8-from_ascii}
 use Rattle.fb_types.specs.SchemaText.{AreRead, Spells, schema_text}
 use Rattle.fb_types.specs.declared.schema_text.MetaFault.{MetaFault}
 use Rattle.part_meta.proofs.PlainLemmas.{plain_ascii, plain_schema}
-use Rattle.part_meta.proofs.SchemaLaws.{schema_text-spells}
+use Rattle.fb_types.proofs.SchemaLaws.{schema_text-spells}
 use Rattle.part_meta.proofs.catalog_reading.printed_schema.Goals as goal
 
 pub returns-in_default : goal.returns-in_default
@@ -22,6 +22,6 @@ pub returns-else-eq : goal.returns-else-eq
 returns-else-eq c = λ schema valid is.
     let P : List ℕ → Type 0 = λ t. Spells t schema in
     let same : c.in-Ok-parse_schema.schema ≡ schema = c.in-Ok-parse_schema.ensures.only schema valid (subst P (sym (c.in-Ok.ensures.cases.0 ∙ is)) (schema_text-spells schema valid)) in
-    let printed : c.bytes-2.result.now ≡ c.args.bytes.now = c.bytes-2.ensures ∙ c.in_ok-print_schema.ensures ∙ ap schema_text same ∙ sym is in
+    let printed : c.bytes-2.result.now ≡ c.args.bytes.now = c.bytes-2.ensures ∙ c.in_ok-print_schema.ensures.text ∙ ap schema_text same ∙ sym is in
     let equal : c.eq.result ≡ true = (slice_eq-Decides Decides-eqb c.bytes-2.result.now c.args.bytes.now c.eq.result c.eq.ensures).1 printed in
     absurd (cc (equal, c.if-eq.false))

@@ -21,7 +21,7 @@ use Rattle.where_grammar.specs.declared.clause.Atom.TheVariants.{Compare}
 use Rattle.where_grammar.specs.declared.clause.Clause.TheVariants.{One, rolls-One}
 use Rattle.where_grammar.specs.declared.clause.Clause.TheOpen.{Clause-F}
 use Rattle.where_grammar.specs.declared.clause.Clause.TheFolds.{fold-Clause, fold-roll-Clause}
-use Rattle.where_grammar.specs.Holds.{holds, name_in}
+use Rattle.where_grammar.specs.Holds.{holds, column_of}
 use Rattle.where_grammar.proofs.Parts.{holds-one}
 use Rattle.part_meta.specs.declared.catalog.Catalog.{Catalog}
 use Rattle.statuses.specs.declared.DamageKind.TheVariants.{Length}
@@ -87,7 +87,7 @@ abbrev one : List ℕ → List Column
 one name = record { name = name; ty = Int } ∷ []
 
 -- the name of a condition is that of its clause
-names-one : (condition : Atom) → names_in (One condition) ≡ name_in condition ∷ []
+names-one : (condition : Atom) → names_in (One condition) ≡ column_of condition ∷ []
 names-one condition =
     ap (fold-Clause (List (List ℕ)) names_by_parts) (sym (rolls-One condition)) ∙ fold-roll-Clause (List (List ℕ)) names_by_parts (Clause-F.One condition)
 

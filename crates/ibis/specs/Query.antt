@@ -9,7 +9,7 @@ use Rattle.where_grammar.specs.declared.clause.Clause.TheOpen.{Clause-F}
 use Rattle.where_grammar.specs.declared.clause.Clause.TheFolds.{fold-Clause}
 use Rattle.where_grammar.specs.declared.clause.QueryKind.{QueryKind}
 use Rattle.where_grammar.specs.declared.clause.QueryKind.TheVariants.{Syntax, Unknown}
-use Rattle.where_grammar.specs.Holds.{name_in}
+use Rattle.where_grammar.specs.Holds.{column_of}
 use Rattle.where_grammar.specs.Language.{after_where, read_where}
 use Rattle.statuses.specs.declared.Status.{Status}
 use Rattle.statuses.specs.declared.Status.TheVariants.{BadQuery}
@@ -34,7 +34,7 @@ names_by_parts (Clause-F.Or parts) = flat_map (λ part. part) parts
 names_by_parts (Clause-F.Xor parts) = flat_map (λ part. part) parts
 names_by_parts (Clause-F.And parts) = flat_map (λ part. part) parts
 names_by_parts (Clause-F.Not part) = part
-names_by_parts (Clause-F.One condition) = name_in condition ∷ []
+names_by_parts (Clause-F.One condition) = column_of condition ∷ []
 
 abbrev pub names_in : Clause → List (List ℕ)
 names_in clause = fold-Clause (List (List ℕ)) names_by_parts clause

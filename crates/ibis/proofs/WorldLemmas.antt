@@ -1,5 +1,5 @@
 -- What a question comes to where the files stand for a world is what the world answers.
-use Rattle.std.proofs.Common.{◌≡◌, ◌≢◌, ◌⊎◌, ◌+◌, ◌*◌, ◌/◌, ◌≤◌, ◌≤ℤ◌, ◌&&◌, ◌==◌, ◌%◌, nat_le, ℕ, ℤ, Bool, true, false, if◌then◌else◌, List, [], ◌∷◌, ◌++◌, length, map, Option, Some, None, Result, Ok, Err, inl, inr, refl, sym, ap, subst, ◌∙◌, arith, rules}
+use Rattle.std.proofs.Common.{◌≡◌, ◌≢◌, ◌⊎◌, ◌+◌, ◌*◌, ◌/◌, ◌≤◌, ◌≤ℤ◌, ◌&&◌, ◌==◌, ◌%◌, nat_le, ℕ, suc, ℤ, Bool, true, false, if◌then◌else◌, List, [], ◌∷◌, ◌++◌, length, map, Option, Some, None, Result, Ok, Err, inl, inr, refl, sym, ap, subst, ◌∙◌, arith, rules}
 use Rattle.std.specs.List.{All, filter, flat_map}
 use Rattle.std.specs.Prelude.{slice_index_or}
 use Rattle.std.proofs.lemmas.Bool.{eq-eqb, le-leb}
@@ -44,7 +44,7 @@ Passing clause schema records =
 one_number : (clause : Clause) (schema : List Column) (number : ℤ) (records : List (List Cell)) (b : Bool) → holds clause schema (Whole number ∷ []) ≡ b
     → Passing clause schema records → Passing clause schema ((Whole number ∷ []) ∷ records)
 unfolding Passing
-one_number clause schema number records true e rest = rw e (ap (λ k. k + 1) rest)
+one_number clause schema number records true e rest = rw e (ap suc rest)
 one_number clause schema number records false e rest = rw e rest
 
 one_more : (clause : Clause) (schema : List Column) (cells : List Cell) (records : List (List Cell)) → IsNumber cells
@@ -97,6 +97,7 @@ module _ (file : List ℕ) (clause : Clause) (name : List ℕ) (records : List (
       ap (λ k. numbers_of Int k bytes) count ∙ values_again Int (column_numbers 0 records) (search rules) (numbers_fit name records numbers fit)
 
   pub counted : passing_in file (λ number. holds clause (one name) (Whole number ∷ [])) (Some bytes) ≡ Ok (length (filter (holds clause (one name)) records))
+  unfolding Passing
   counted =
       let test : ℤ → Bool = λ number. holds clause (one name) (Whole number ∷ []) in
       let many : passing test bytes ≡ length (filter (holds clause (one name)) records) =
@@ -130,28 +131,30 @@ module _ (m : Files) (dir : List ℕ) (clause : Clause) (name : List ℕ) where
       ap (passing_in file test) (rests 0) ∙ counted file clause name records some few numbers fit
       ∙ ap (λ (rs : List (List Cell)). Ok (length (filter (holds clause (one name)) rs))) (sym (append-nil records))
 
+HitsOf : Files → List ℕ → Clause → List Column → List Partition → Type 0
+HitsOf m dir clause schema parts =
+    hits_in m dir clause schema (map (λ part. part.number) parts) ≡ Ok (length (filter (holds clause schema) (flat_map (λ part. part.records) parts)))
+
+hits_by : (m : Files) (dir : List ℕ) (clause : Clause) (d : Dataset) → IsDataset d → Rests m dir d → IsNoPart d ⊎ IsOnePart d → HitsOf m dir clause d.schema d.parts
+unfolding HitsOf
+hits_by m dir clause d valid rests (inl h) =
+    subst (λ (s : List Column). HitsOf m dir clause s d.parts) (sym valid.schema.is)
+    (subst (λ (ps : List Partition). HitsOf m dir clause (one valid.schema.name) ps) (sym h.none) (hits_none m dir clause valid.schema.name))
+hits_by m dir clause d valid rests (inr h) =
+    let part : Partition = record { number = 0; records = h.records } in
+    let there : PartRests m dir d.schema part =
+    All-head (PartRests m dir d.schema) part [] (subst (All (PartRests m dir d.schema)) h.part rests.parts) in
+    let fit : All (λ cells. RecordFits cells (one valid.schema.name)) h.records =
+    subst (λ (s : List Column). All (λ cells. RecordFits cells s) h.records) valid.schema.is h.valid.fit in
+    let rests_one : PartRests m dir (one valid.schema.name) part = subst (λ (s : List Column). PartRests m dir s part) valid.schema.is there in
+    subst (λ (s : List Column). HitsOf m dir clause s d.parts) (sym valid.schema.is)
+    (subst (λ (ps : List Partition). HitsOf m dir clause (one valid.schema.name) ps) (sym h.part)
+    (hits_one m dir clause valid.schema.name h.records h.valid.some h.few h.numbers fit rests_one))
+
 hits_of : (m : Files) (dir : List ℕ) (clause : Clause) (d : Dataset) → IsDataset d → Rests m dir d
     → hits_in m dir clause d.schema (map (λ part. part.number) d.parts) ≡ Ok (hits clause d)
-hits_of m dir clause d valid rests = by valid.parts
-  where
-    name : List ℕ
-    name = valid.schema.name
-    abbrev Gives : List Column → List Partition → Type 0
-    Gives schema parts =
-        hits_in m dir clause schema (map (λ part. part.number) parts) ≡ Ok (length (filter (holds clause schema) (flat_map (λ part. part.records) parts)))
-    by : IsNoPart d ⊎ IsOnePart d → Gives d.schema d.parts
-    by (inl h) =
-        subst (λ (s : List Column). Gives s d.parts) (sym valid.schema.is)
-        (subst (λ (ps : List Partition). Gives (one name) ps) (sym h.none) (hits_none m dir clause name))
-    by (inr h) =
-        let part : Partition = record { number = 0; records = h.records } in
-        let there : PartRests m dir d.schema part =
-        All-head (PartRests m dir d.schema) part [] (subst (All (PartRests m dir d.schema)) h.part rests.parts) in
-        subst (λ (s : List Column). Gives s d.parts) (sym valid.schema.is)
-        (subst (λ (ps : List Partition). Gives (one name) ps) (sym h.part)
-        (hits_one m dir clause name h.records h.valid.some h.few h.numbers
-        (subst (λ (s : List Column). All (λ cells. RecordFits cells s) h.records) valid.schema.is h.valid.fit)
-        (subst (λ (s : List Column). PartRests m dir s part) valid.schema.is there)))
+unfolding HitsOf
+hits_of m dir clause d valid rests = hits_by m dir clause d valid rests valid.parts
 
 count_known : (m : Files) (dir : List ℕ) (d : Dataset) → IsDataset d → Rests m dir d → (r : Result Clause Status)
     → (r >>= (λ known. hits_in m dir known d.schema (map (λ part. part.number) d.parts))) ≡ (r >>= (λ known. Ok (hits known d)))

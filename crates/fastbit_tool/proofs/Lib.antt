@@ -1,3 +1,4 @@
 pub mod Refusals
 pub mod PrintLemmas
 pub mod RunLemmas
+pub mod CountLemmas

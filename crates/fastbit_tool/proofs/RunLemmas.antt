@@ -6,8 +6,9 @@ use Rattle.fb_outside.proofs.FileLemmas.{ChangesAmong-same}
 use Rattle.fb_types.specs.declared.schemas.Column.{Column}
 use Rattle.fb_types.specs.declared.cells.Cell.{Cell}
 use Rattle.fb_types.specs.Table.{Table}
+use Rattle.command_words.specs.declared.Job.{Job}
+use Rattle.command_words.specs.declared.Job.TheVariants.{Ardea}
 use Rattle.command_words.specs.declared.Load.{Load}
-use Rattle.command_words.specs.Valid.{IsValid}
 use Rattle.part_meta.specs.FileNames.{catalog_name, values_name}
 use Rattle.part_meta.specs.declared.names.FileKind.TheVariants.{Values}
 use Rattle.column_file.specs.Values.{values_bytes}
@@ -22,7 +23,7 @@ use Rattle.ardea.specs.Load.{Gives, load_outcome, loaded_line, outcome_of}
 use Rattle.ardea.specs.Written.{Writes, WritesInPart, WritesValues, with_column, with_values}
 use Rattle.ardea.specs.Done.{GoesThrough, IsCut, IsDone}
 use Rattle.ardea.proofs.WorldLemmas.{absent_dataset, load_outcome_is, stands_with_all, stands_with_values}
-use Rattle.fastbit_tool.specs.Reply.{Replies, is_fault, outcome}
+use Rattle.fastbit_tool.specs.Reply.{IsInputOf, Replies, is_fault, outcome, reads_input}
 use Rattle.fastbit_tool.specs.Loading.{LoadRuns, Loaded, Refuses, Unread, Cut, Prints}
 use Rattle.fastbit_tool.specs.Causes.{HasCauseIn, status_of}
 use Rattle.fastbit_tool.specs.Effects.{IsOfRequest, LeavesAfter}
@@ -32,11 +33,11 @@ use Rattle.fastbit_tool.proofs.PrintLemmas.{Replies-prints, Replies-quiet, not_r
 is_refusal : (load : Load) (left : Option (List ℕ)) (files : Option Files) (status : Status) → Gives load left files (Err status) → IsRefusal status
 is_refusal load left files status g = IsRefusal-load load.schema g.input g.there status g.is
 
-stops : (status : Status) → (status ≡ StoreFault) ⊎ (status ≡ OutOfMemory) → is_fault status ≡ true
+pub stops : (status : Status) → (status ≡ StoreFault) ⊎ (status ≡ OutOfMemory) → is_fault status ≡ true
 stops status (inl is) = ap is_fault is
 stops status (inr is) = ap is_fault is
 
-not_unread : (status : Status) → (status ≡ StoreFault) ⊎ (status ≡ OutOfMemory) → status ≢ ReadFault
+pub not_unread : (status : Status) → (status ≡ StoreFault) ⊎ (status ≡ OutOfMemory) → status ≢ ReadFault
 not_unread status (inl is) e = let bad : StoreFault ≡ ReadFault = sym is ∙ e in cc
 not_unread status (inr is) e = let bad : OutOfMemory ≡ ReadFault = sym is ∙ e in cc
 
@@ -78,7 +79,7 @@ module _ (load : Load) (bytes : List ℕ) (m : Files) (new : Option Files) (befo
         count = 1;
         within = omega arith;
         stands = subst (λ (f : Option Files). StandsFor f (after_one w (Loads load.dir table.schema table.records))) (sym wrote)
-            (stands_with_all load.dir table goes.schema goes.fit goes.few m w proper (absent_dataset load (Some bytes) m w table proper h goes) h);
+            (stands_with_all load.dir table goes.schema goes.fit goes.few goes.numbers m w proper (absent_dataset load (Some bytes) m w table proper h goes) h);
         all = λ e. refl;
         none = λ e. absurd (read e);
       }
@@ -121,7 +122,7 @@ module _ (load : Load) (bytes : List ℕ) (m : Files) (new : Option Files) (befo
 
 -- only files of the dataset that the load names change
 abbrev OfLoad : Load → List ℕ → Type 0
-OfLoad load q = IsOfRequest (Some load) q
+OfLoad load q = IsOfRequest (Some (Ardea load)) q
 
 column_kept : (load : Load) (schema : List Column) (records : List (List Cell)) (m : Files) (q : List ℕ) → (OfLoad load q → ⊥)
     → told_at (Some (with_column load.dir schema records m)) q ≡ told_at (Some m) q
@@ -176,12 +177,12 @@ module _ (load : Load) (left : Option (List ℕ)) (old new : Option Files) (befo
 -- the status is that of the definition, or a fault
 module _ (load : Load) (left : Option (List ℕ)) (old new : Option Files) (before now : Option (List ℕ)) (status : Status) where
   printed_cause : (result : Result Table Status) (text : List ℕ) → Gives load left old result → Prints (status_of result) text before now status
-      → HasCauseIn (Some load) left old status
+      → HasCauseIn (Some (Ardea load)) left old status
   printed_cause result text given (inl (is, grows)) = inr (record { result = result; given = given; is = is })
   printed_cause result text given (inr (inl (is, part))) = inl (ap is_fault is)
   printed_cause result text given (inr (inr (is, same))) = inl (ap is_fault is)
 
-  load_cause : LoadRuns load left old new before now status → HasCauseIn (Some load) left old status
+  load_cause : LoadRuns load left old new before now status → HasCauseIn (Some (Ardea load)) left old status
   load_cause (Loaded table goes wrote prints) = printed_cause (Ok table) _ goes.given prints
   load_cause (Refuses refusal given same prints) = printed_cause (Err refusal) _ given prints
   load_cause (Unread same quiet is) = inl (ap is_fault is)
@@ -212,31 +213,37 @@ module _ (load : Load) (bytes : List ℕ) (new : Option Files) (before now : Opt
 
 -- The same of the request that the words spell.
 module _ (bytes : List ℕ) (new : Option Files) (before now : Option (List ℕ)) (status : Status) (w : World) (left : Option (List ℕ)) (old : Option Files)
-    (told : left ≡ Some bytes) (h : StandsFor old w) where
-  pub call_replies : (asked : Option Load) (load : Load) → Some load ≡ asked → IsValid load → LoadRuns load left old new before now status
-      → Replies (outcome asked bytes w) status before now
-  call_replies asked load is valid runs =
-      subst (λ (a : Option Load). Replies (outcome a bytes w) status before now) is
-      (replies_over load bytes new before now status w valid.path old h
-      (subst (λ (l : Option (List ℕ)). LoadRuns load l old new before now status) told runs))
+    (h : StandsFor old w) where
+  pub call_replies : (asked : Option Job) (load : Load) → Some (Ardea load) ≡ asked → IsInputOf asked left bytes → IsPath load.dir
+      → LoadRuns load left old new before now status → Replies (outcome asked bytes w) status before now
+  call_replies asked load is told path runs =
+      let all : left ≡ Some bytes = told (sym (ap reads_input is)) in
+      subst (λ (a : Option Job). Replies (outcome a bytes w) status before now) is
+      (replies_over load bytes new before now status w path old h
+      (subst (λ (l : Option (List ℕ)). LoadRuns load l old new before now status) all runs))
 
-  pub call_leaves : (asked : Option Load) (load : Load) → Some load ≡ asked → IsValid load → LoadRuns load left old new before now status
-      → LeavesAfter (outcome asked bytes w).effects w status new
-  call_leaves asked load is valid runs =
-      subst (λ (a : Option Load). LeavesAfter (outcome a bytes w).effects w status new) is
-      (leaves_over load bytes new before now status w valid.path old h
-      (subst (λ (l : Option (List ℕ)). LoadRuns load l old new before now status) told runs))
+  pub call_leaves : (asked : Option Job) (load : Load) → Some (Ardea load) ≡ asked → IsInputOf asked left bytes → IsPath load.dir
+      → LoadRuns load left old new before now status → LeavesAfter (outcome asked bytes w).effects w status new
+  call_leaves asked load is told path runs =
+      let all : left ≡ Some bytes = told (sym (ap reads_input is)) in
+      subst (λ (a : Option Job). LeavesAfter (outcome a bytes w).effects w status new) is
+      (leaves_over load bytes new before now status w path old h
+      (subst (λ (l : Option (List ℕ)). LoadRuns load l old new before now status) all runs))
 
 module _ (left : Option (List ℕ)) (old new : Option Files) (before now : Option (List ℕ)) (status : Status) where
-  pub call_keeps : (asked : Option Load) (load : Load) → Some load ≡ asked → LoadRuns load left old new before now status
+  pub call_keeps : (asked : Option Job) (load : Load) → Some (Ardea load) ≡ asked → LoadRuns load left old new before now status
       → ChangesAmong (IsOfRequest asked) old new
   call_keeps asked load is runs =
-      subst (λ (a : Option Load). ChangesAmong (IsOfRequest a) old new) is (keeps load left old new before now status runs)
+      subst (λ (a : Option Job). ChangesAmong (IsOfRequest a) old new) is (keeps load left old new before now status runs)
 
-  pub call_cause : (asked : Option Load) (load : Load) → Some load ≡ asked → LoadRuns load left old new before now status
+  pub call_cause : (asked : Option Job) (load : Load) → Some (Ardea load) ≡ asked → LoadRuns load left old new before now status
       → HasCauseIn asked left old status
   call_cause asked load is runs =
-      subst (λ (a : Option Load). HasCauseIn a left old status) is (load_cause load left old new before now status runs)
+      subst (λ (a : Option Job). HasCauseIn a left old status) is (load_cause load left old new before now status runs)
+
+-- a load reads the input
+pub call_reads : (asked : Option Job) (load : Load) → Some (Ardea load) ≡ asked → reads_input asked ≡ false → ⊥
+call_reads asked load is e = let bad : true ≡ false = ap reads_input is ∙ e in cc
 
 pub loaded_runs : (load : Load) (left : Option (List ℕ)) (old new : Option Files) (before now : Option (List ℕ)) (status : Status) (rows : ℕ)
     → IsDone load left old new rows → Prints Done (loaded_line rows) before now status → LoadRuns load left old new before now status

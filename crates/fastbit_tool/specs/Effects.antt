@@ -1,7 +1,8 @@
 -- What a command leaves of the files.
 use Rattle.std.specs.Prelude.{◌≡◌, ◌≤◌, ℕ, false, List, length, take, Option, Some, None}
 use Rattle.fb_outside.specs.Files.{Files}
-use Rattle.command_words.specs.declared.Load.{Load}
+use Rattle.command_words.specs.declared.Job.{Job}
+use Rattle.command_words.specs.declared.Job.TheVariants.{Ardea, Ibis}
 use Rattle.part_meta.specs.FileNames.{IsFileOf}
 use Rattle.world.specs.World.{World}
 use Rattle.world.specs.Stands.{StandsFor}
@@ -19,7 +20,8 @@ pub record LeavesAfter (effects : List Effect) (world : World) (status : Status)
   pub all : is_fault status ≡ false → count ≡ length effects
   pub none : status ≡ ReadFault → count ≡ 0
 
--- a file of the dataset that the request names
-abbrev pub IsOfRequest : Option Load → List ℕ → Type 0
+-- a file that the request may change: one of the dataset that a load names
+abbrev pub IsOfRequest : Option Job → List ℕ → Type 0
 IsOfRequest None name = ⊥
-IsOfRequest (Some load) name = IsFileOf load.dir name
+IsOfRequest (Some (Ardea load)) name = IsFileOf load.dir name
+IsOfRequest (Some (Ibis dir query)) name = ⊥

@@ -4,6 +4,7 @@ ghost use Rattle.std.specs.Prelude.{◌≡◌, false, IfOk, string_bytes};
 ghost use Rattle.fb_outside.specs.Causes.{HasCause};
 ghost use Rattle.statuses.specs.Lines.{line_of};
 ghost use Rattle.ardea.specs.Load.{loaded_line};
+ghost use Rattle.ibis.specs.Count.{hits_line};
 ghost use Rattle.fastbit_tool.specs.Loading.{Prints};
 ghost use Rattle.fastbit_tool.specs.Reply.{is_fault};
 
@@ -39,6 +40,24 @@ fn loaded_text(alloc: Global, rows: u64) -> Result<String, AllocError>
     ensures { IfOk result (λ line. string_bytes line ≡ loaded_line rows) }
 {
     format!(in alloc; "loaded {rows} rows\n")
+}
+
+/// Prints how many records there are that a clause holds on.
+pub(crate) fn print_hits<K: Sink>(alloc: Global, out: &mut K, hits: u64) -> Status
+    ensures cause { HasCause (K.faults out.old) (K.faults out.new) (result ≡ Status.SinkFault) }
+    ensures prints { Prints Status.Done (hits_line hits) (K.written out.old) (K.written out.new) result }
+{
+    match hits_text(alloc, hits) {
+        Ok(line) => print_line(out, line.as_bytes(), Status::Done),
+        Err(_) => Status::OutOfMemory,
+    }
+}
+
+#[tactic(auto, unfolding(ibis::specs::Count::hits_line))]
+fn hits_text(alloc: Global, hits: u64) -> Result<String, AllocError>
+    ensures { IfOk result (λ line. string_bytes line ≡ hits_line hits) }
+{
+    format!(in alloc; "hits {hits}\n")
 }
 
 fn print_line<K: Sink>(out: &mut K, line: &[u8], done: Status) -> Status

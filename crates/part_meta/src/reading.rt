@@ -15,8 +15,11 @@ pub(crate) trait Front: Sized {
     type Whole;
 
     ghost is_of: { Self.Whole → Type 0 };
+
     ghost lines: { Self.Whole → List (List ℕ) };
+
     ghost is_front: { Self → Type 0 };
+
     ghost front_lines: { Self → List (List ℕ) };
 
     /// Before the first line.

@@ -1,5 +1,5 @@
 -- How the text of a catalog goes on.
-use Rattle.std.proofs.Common.{◌≡◌, ◌≢◌, ◌↔◌, ℕ, ◌+◌, ◌<◌, ◌≤◌, ◌^◌, List, [], ◌∷◌, ◌++◌, length, get_or, map, ◌-◌, refl, sym, ap, ◌∙◌, subst, arith, codes, decimal, append_assoc, inl, inr, lit<, lit≤}
+use Rattle.std.proofs.Common.{◌≡◌, ℕ, ◌+◌, ◌<◌, ◌≤◌, ◌^◌, List, [], ◌∷◌, ◌++◌, length, get_or, map, ◌-◌, refl, sym, ap, ◌∙◌, subst, arith, codes, decimal, append_assoc, inl, inr, lit≤}
 use Rattle.std.specs.List.{All, AllPairs, AllByRecursion}
 use Rattle.std.proofs.lemmas.Bool.{cases_lt}
 use Rattle.std.proofs.lemmas.List.{append-nil, append_cancel_left, get_or_append_left, get_or_at, length-append, length-map, length_push, map_push}

@@ -1,6 +1,6 @@
 -- Names of files tell what they are names of.
-use Rattle.std.proofs.Common.{nat_le, ◌≡◌, ◌≢◌, ◌+◌, ◌<◌, ◌%◌, ◌&&◌, ◌==◌, eqb, not, ℕ, Bool, true, false, List, [], ◌∷◌, ◌++◌, length, Option, Some, None, IsNone, IsSomeAnd, unwrap_or, if◌then◌else◌, bytes_eq, refl, sym, ap, ◌∙◌, subst, arith, append_assoc, append-nil, length-append}
-use Rattle.std.specs.List.{AllByRecursion, list_all}
+use Rattle.std.proofs.Common.{nat_le, ◌≡◌, ◌≢◌, ◌+◌, ◌<◌, ◌%◌, ◌&&◌, ◌==◌, not, ℕ, true, false, List, [], ◌∷◌, ◌++◌, length, Option, Some, None, IsNone, IsSomeAnd, unwrap_or, if◌then◌else◌, bytes_eq, refl, sym, ap, ◌∙◌, subst, arith, append_assoc, append-nil, length-append}
+use Rattle.std.specs.List.{list_all}
 use lib.Chars.{codes}
 use Rattle.std.proofs.lemmas.Bool.{and_from, and_parts, both_ways, not-true}
 use Rattle.std.proofs.lemmas.Bool.Decides.{nat_tests}
@@ -9,7 +9,7 @@ use Rattle.std.proofs.lemmas.List.Folds.{list_all-append}
 use Rattle.std.proofs.lemmas.Slice.Eq.{bytes_eq-Decides}
 use Rattle.fb_outside.proofs.JoinLemmas.{NoSlash, same_ends}
 use Rattle.fb_types.proofs.NameFacts.{name_continues}
-use Rattle.fb_types.specs.Names.{IsColumnName, begins_name, continues_name, has_name_bytes, is_keyword}
+use Rattle.fb_types.specs.Names.{IsColumnName, continues_name, has_name_bytes, is_keyword}
 use Rattle.part_meta.specs.FileNames.{IsCalled, under, catalog_name, four_digits, folder_name, part_folder, leaf, file_name, values_name}
 use Rattle.part_meta.specs.declared.names.FileKind.{FileKind}
 use Rattle.part_meta.specs.declared.names.FileKind.TheVariants.{PartText, Values, Mask, Words, Starts, Index}

@@ -1,5 +1,5 @@
 -- Texts of ASCII without a line feed.
-use Rattle.std.proofs.Common.{◌≡◌, ◌≢◌, ℕ, ◌+◌, ◌<◌, ◌≤◌, ◌^◌, ◌%◌, ◌&&◌, ◌==◌, nat_lt, not, true, false, Bool, List, [], ◌∷◌, ◌++◌, map, refl, ap, ◌∙◌, subst, arith, IsAscii, codes, decimal, ltb-true, eq-eqb}
+use Rattle.std.proofs.Common.{◌≡◌, ◌≢◌, ℕ, ◌+◌, ◌<◌, ◌≤◌, ◌^◌, ◌%◌, ◌&&◌, ◌==◌, nat_lt, not, true, Bool, List, [], ◌∷◌, ◌++◌, map, refl, ◌∙◌, subst, arith, IsAscii, decimal, ltb-true, eq-eqb}
 use Rattle.std.specs.List.{AllByRecursion, join_with_byte, list_all}
 use Rattle.std.specs.Str.Parse.{AllDigits}
 use Rattle.std.proofs.lemmas.Bool.{and_from, and_parts}

@@ -1,10 +1,10 @@
 -- A part's text, put together.
-use Rattle.std.proofs.Common.{◌≡◌, ℕ, List, [], ◌∷◌, ◌++◌, length, refl, sym, ap, ◌∙◌, append_assoc, append-nil}
+use Rattle.std.proofs.Common.{◌≡◌, ℕ, List, [], ◌∷◌, ◌++◌, length, refl, ap, ◌∙◌, append_assoc, append-nil}
 use Rattle.std.specs.List.{flat_map}
 use Rattle.std.proofs.lemmas.List.Concat.{flat_map-append}
 use Rattle.fb_types.specs.declared.schemas.Column.{Column}
 use Rattle.part_meta.specs.Lines.{joined}
-use Rattle.part_meta.specs.PartText.{column_lines, header_lines, part_lines, part_text}
+use Rattle.part_meta.specs.PartText.{column_lines, header_lines, part_text}
 use Rattle.part_meta.specs.declared.part.PartMeta.{PartMeta}
 
 -- b and e are whole lines; p, q and s stand before what follows in their lines

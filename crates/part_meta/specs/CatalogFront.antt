@@ -1,5 +1,5 @@
 -- What the first lines of a catalog say.
-use Rattle.std.specs.Prelude.{ℕ, ◌≤◌, List, [], ◌∷◌, ◌++◌}
+use Rattle.std.specs.Prelude.{ℕ, List, [], ◌∷◌, ◌++◌}
 use Rattle.fb_types.specs.Schemas.{IsSchema}
 use Rattle.part_meta.specs.CatalogText.{IsCatalog, catalog_lines, title_line, schema_line}
 use Rattle.part_meta.specs.declared.catalog.Catalog.{Catalog}

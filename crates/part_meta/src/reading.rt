@@ -15,8 +15,11 @@ pub(crate) trait Front: Sized {
     type Whole;
 
     ghost is_of: { Self.Whole → Type 0 };
+
     ghost lines: { Self.Whole → List (List ℕ) };
+
     ghost is_front: { Self → Type 0 };
+
     ghost front_lines: { Self → List (List ℕ) };
 
     /// Before the first line.
@@ -34,7 +37,8 @@ pub(crate) trait Front: Sized {
         requires { is_front self }
         ensures { Ends is_of lines front_lines self result };
 
-    /// What was read always begins some text, and is short; a text is of lines, and of one value alone.
+    /// Laws, without code: what was read always begins some text, and is short; a text is made of lines, and of one
+    /// value alone.
     fn laws()
         ensures begins { (f : Self) → is_front f → Begins is_of lines (front_lines f) }
         ensures short { (f : Self) → is_front f → length (front_lines f) ≤ 1028 }

@@ -1,4 +1,4 @@
-use Rattle.std.proofs.Common.{◌≡◌, ℕ, codes, arith}
+use Rattle.std.proofs.Common.{◌≡◌, codes, arith}
 use Rattle.part_meta.proofs.CatalogLemmas.{is_next, started}
 use Rattle.part_meta.proofs.NumberLemmas.{label_told}
 use Rattle.part_meta.proofs.catalog_reading.with_next.Goals as goal

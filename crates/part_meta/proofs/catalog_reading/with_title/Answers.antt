@@ -1,4 +1,4 @@
-use Rattle.std.proofs.Common.{◌≡◌, ◌∷◌, [], true, false, codes, ap, sym}
+use Rattle.std.proofs.Common.{◌≡◌, ◌∷◌, [], true, ap, sym}
 use Rattle.part_meta.specs.CatalogText.{title_line}
 use Rattle.part_meta.specs.Lines.{line}
 use Rattle.part_meta.proofs.CatalogLemmas.{is_title}

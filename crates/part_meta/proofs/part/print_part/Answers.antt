@@ -1,6 +1,5 @@
-use Rattle.std.proofs.Common.{◌≡◌, ◌++◌, length, take, ap, ◌∙◌, sym, arith, take_all, List}
+use Rattle.std.proofs.Common.{◌≡◌, ◌++◌, length, take, ap, ◌∙◌, sym, arith, take_all}
 use Rattle.std.specs.List.{flat_map}
-use Rattle.fb_types.specs.declared.schemas.Column.{Column}
 use Rattle.part_meta.specs.Lines.{joined}
 use Rattle.part_meta.specs.PartText.{column_lines, header_lines}
 use Rattle.part_meta.proofs.PrintLemmas.{part-joined}

@@ -1,5 +1,4 @@
-use Rattle.std.proofs.Common.{append_assoc, codes, refl}
-use Rattle.part_meta.specs.FileNames.{folder_name}
+use Rattle.std.proofs.Common.{append_assoc, codes}
 use Rattle.part_meta.specs.PartText.{number_line}
 use Rattle.part_meta.proofs.part.push_number.Goals as goal
 

@@ -1,4 +1,4 @@
-use Rattle.std.proofs.Common.{◌≡◌, arith}
+use Rattle.std.proofs.Common.{arith}
 use Rattle.part_meta.proofs.PartLemmas.{all_columns}
 use Rattle.part_meta.proofs.part_reading.whole_body.Goals as goal
 

@@ -1,8 +1,7 @@
-use Rattle.std.proofs.Common.{◌≡◌, ◌∷◌, [], true, false, codes, ap, sym}
+use Rattle.std.proofs.Common.{◌≡◌, ◌∷◌, [], true, ap, sym}
 use Rattle.part_meta.specs.PartText.{header_begin_line}
 use Rattle.part_meta.specs.Lines.{line}
 use Rattle.part_meta.proofs.PartLemmas.{is_header_begin}
-use Rattle.part_meta.proofs.DigitLemmas.{four_digits_written}
 use Rattle.part_meta.proofs.part_reading.with_begin.Goals as goal
 
 pub returns-then-is : goal.returns-then-is

@@ -1,4 +1,4 @@
-use Rattle.std.proofs.Common.{◌≡◌, ◌∷◌, ◌++◌, [], List, ℕ, sym, ap, ◌∙◌}
+use Rattle.std.proofs.Common.{◌≡◌, ◌∷◌, ◌++◌, [], sym, ap, ◌∙◌}
 use Rattle.part_meta.specs.Lines.{line}
 use Rattle.part_meta.specs.PartText.{column_begin_line, name_line, type_line}
 use Rattle.part_meta.specs.PartFront.{body_lines}

@@ -1,4 +1,4 @@
-use Rattle.std.proofs.Common.{◌≡◌, ◌+◌, ◌==◌, ◌∷◌, ◌++◌, [], List, ℕ, length, true, false, sym, ap, ◌∙◌, arith, append-nil, eqb-true, subst, Option, Some, None}
+use Rattle.std.proofs.Common.{◌≡◌, ◌==◌, ◌∷◌, ◌++◌, [], length, true, sym, ap, ◌∙◌, arith, append-nil, eqb-true, subst, Some}
 use Rattle.std.proofs.lemmas.List.{length_push, nil_from_length}
 use Rattle.part_meta.specs.Lines.{GoesOn, line, lines_in}
 use Rattle.part_meta.proofs.CutLemmas.{ended_early, lines_in-line, step_in, unended, wrong_line}

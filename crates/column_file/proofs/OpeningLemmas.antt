@@ -1,10 +1,10 @@
 -- Opening files that are as they have to be.
-use Rattle.std.proofs.Common.{◌≡◌, ◌≤◌, ◌++◌, ◌==◌, ℕ, Bool, List, [], length, Option, Some, None, Result, Ok, Err, IfSome, nat_lt, refl, sym, ap, subst, ◌∙◌, append-nil, arith, if◌then◌else◌}
+use Rattle.std.proofs.Common.{◌≡◌, ◌≤◌, ◌==◌, ℕ, Bool, List, [], length, Option, Some, None, Result, Ok, Err, IfSome, sym, ap, subst, ◌∙◌, append-nil, arith, if◌then◌else◌}
 use Rattle.std.proofs.lemmas.Bool.{eq-eqb, le-ltb}
 use Rattle.fb_outside.specs.Files.{Files, file_at, told_at}
 use Rattle.wah_words.specs.Bytes.{spelling, vector_at}
 use Rattle.wah_words.proofs.BytesLemmas.{vector_again}
-use Rattle.column_file.specs.Opening.{Opens, to_its_end, mask_in}
+use Rattle.column_file.specs.Opening.{Opens, to_its_end}
 use Rattle.column_file.specs.declared.fault.ColFault.{ColFault}
 use Rattle.column_file.specs.declared.fault.ColFault.TheVariants.{MaskTrailing, MaskLength}
 

@@ -1,12 +1,12 @@
 -- One number and its bytes, both ways.
-use Rattle.std.proofs.Common.{◌≡◌, ◌+◌, ◌%◌, ◌-◌, ◌^◌, ◌<◌, ◌≤◌, ◌≤ℤ◌, ℕ, ℤ, pos, false, true, IsSome, List, [], ◌∷◌, length, get_or, lit<, refl, sym, ap, ◌∙◌, arith}
+use Rattle.std.proofs.Common.{◌≡◌, ◌%◌, ◌-◌, ◌^◌, ◌<◌, ◌≤ℤ◌, ℕ, ℤ, pos, false, true, IsSome, List, [], ◌∷◌, length, get_or, lit<, refl, ap, ◌∙◌, arith}
 use lib.IntN.{negsuc}
 use mir.Syntax.{Width, w8, w16, w32, w64}
-use mir.Val.{SFits, of_z, to_z, bits, hbits}
+use mir.Val.{SFits, of_z, to_z, bits}
 use Rattle.std.specs.Int.{to_le_bytes, from_le_bytes}
 use Rattle.std.proofs.lemmas.Int.{ints, to_z-of_z, of_z-to_z}
 use Rattle.std.proofs.lemmas.Nat.{le_bytes_2, le_bytes_4, le_bytes_8, from_le_bytes-to_le_bytes_2, from_le_bytes-to_le_bytes_4, from_le_bytes-to_le_bytes_8}
-use Rattle.fb_types.specs.Types.{signed_ends, unsigned_ends, width_of}
+use Rattle.fb_types.specs.Types.{signed_ends, width_of}
 use Rattle.fb_types.specs.declared.types.ColType.{ColType}
 use Rattle.fb_types.specs.declared.types.ColType.TheVariants.{Byte, UByte, Short, UShort, Int, UInt, Long, ULong, Category, Text}
 use Rattle.column_file.specs.Values.{ValueFits, number_bytes, number_of, width_in, signed_at, unsigned_at}

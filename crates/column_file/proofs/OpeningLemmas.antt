@@ -1,12 +1,15 @@
 -- Opening files that are as they have to be.
-use Rattle.std.proofs.Common.{◌≡◌, ◌≤◌, ◌++◌, ◌==◌, ℕ, Bool, List, [], length, Option, Some, None, Result, Ok, Err, IfSome, nat_lt, refl, sym, ap, subst, ◌∙◌, append-nil, arith, if◌then◌else◌}
+use Rattle.std.proofs.Common.{◌≡◌, ◌*◌, ℤ, ◌≤◌, ◌==◌, ℕ, Bool, List, [], length, Option, Some, None, Result, Ok, Err, IfSome, sym, ap, subst, ◌∙◌, append-nil, arith, if◌then◌else◌}
 use Rattle.std.proofs.lemmas.Bool.{eq-eqb, le-ltb}
 use Rattle.fb_outside.specs.Files.{Files, file_at, told_at}
 use Rattle.wah_words.specs.Bytes.{spelling, vector_at}
 use Rattle.wah_words.proofs.BytesLemmas.{vector_again}
-use Rattle.column_file.specs.Opening.{Opens, to_its_end, mask_in}
+use Rattle.fb_types.specs.declared.types.ColType.{ColType}
+use Rattle.column_file.specs.Values.{values_bytes, width_in}
+use Rattle.column_file.proofs.ValuesLemmas.{length-values_bytes}
+use Rattle.column_file.specs.Opening.{Opens, to_its_end, mask_in, column_in}
 use Rattle.column_file.specs.declared.fault.ColFault.{ColFault}
-use Rattle.column_file.specs.declared.fault.ColFault.TheVariants.{MaskTrailing, MaskLength}
+use Rattle.column_file.specs.declared.fault.ColFault.TheVariants.{WrongLength, MaskTrailing, MaskLength}
 
 -- a mask of so many rows is the mask that its bytes are
 pub spelled_to_end : (rows : ℕ) (bits : List Bool) → length bits ≡ rows → length bits ≤ 4194304
@@ -27,3 +30,13 @@ pub opens_spelled : (rows : ℕ) (bits : List Bool) (bytes : List ℕ) (opened :
     → Opens opened (to_its_end rows (length bytes) (vector_at bytes)) → Opens opened (Ok bits)
 opens_spelled rows bits bytes opened is limit spelled h =
     subst (Opens opened) (ap (λ b. to_its_end rows (length b) (vector_at b)) spelled ∙ spelled_to_end rows bits is limit) h
+
+-- the two files of a column
+pub column_opens : (ty : ColType) (values : List ℤ) (bits : List Bool) → length bits ≤ 4194304 → length bits ≡ length values
+    → column_in (width_in ty) (length values) (Some (values_bytes ty values)) (Some (spelling bits)) ≡ Ok bits
+column_opens ty values bits limit is =
+    let rows = length values in
+    let mask = mask_in rows (Some (spelling bits)) in
+    let size = length-values_bytes ty values in
+    ap (λ b. if b then mask else Err (WrongLength (rows * width_in ty) (length (values_bytes ty values)))) (eq-eqb (length (values_bytes ty values)) (rows * width_in ty) size)
+    ∙ spelled_to_end rows bits is limit

@@ -1,11 +1,11 @@
 -- Rows of a file that is told.
-use Rattle.std.proofs.Common.{◌≡◌, ◌+◌, ◌*◌, ◌<◌, ◌≤◌, ◌≤ℤ◌, ℕ, ℤ, List, [], All, length, take, drop, Option, Some, None, IfSome, IsSome, unwrap_or, refl, sym, ap, subst, ◌∙◌, arith, length-drop}
-use Rattle.std.proofs.lemmas.List.{take_all, length-take, length-take-le}
+use Rattle.std.proofs.Common.{◌≡◌, ◌+◌, ◌*◌, ◌<◌, ◌≤◌, ℕ, ℤ, List, [], All, length, take, drop, Option, Some, None, IfSome, IsSome, unwrap_or, sym, ap, subst, ◌∙◌, arith, length-drop}
+use Rattle.std.proofs.lemmas.List.{take_all, length-take-le}
 use Rattle.std.proofs.lemmas.List.Elements.{All-take, All-drop}
 use Rattle.std.proofs.Math.Nat.{mul-le-mul_right, eq_of_mul-eq-mul_right}
 use Rattle.fb_types.specs.Types.{width_of}
 use Rattle.fb_types.specs.declared.types.ColType.{ColType}
-use Rattle.fb_outside.specs.Files.{Files, file_at, bytes_at, told_at}
+use Rattle.fb_outside.specs.Files.{Files, bytes_at, told_at}
 use Rattle.column_file.specs.Values.{ValueFits, values_bytes, width_in, numbers_of}
 use Rattle.column_file.proofs.ValuesLemmas.{values_again, part_of_values, length-values_bytes}
 

@@ -1,5 +1,5 @@
 -- Numbers and their bytes, both ways.
-use Rattle.std.proofs.Common.{◌≡◌, inl, inr, ◌+◌, ◌*◌, ◌/◌, ◌-◌, ◌<◌, ◌≤◌, ◌≤ℤ◌, ℕ, zero, suc, ℤ, None, Some, IsSome, unwrap_or, List, [], ◌∷◌, ◌++◌, All, map, length, get_or, take, drop, refl, sym, ap, subst, ◌∙◌, arith, lit<, length-append, length-drop}
+use Rattle.std.proofs.Common.{◌≡◌, inl, inr, ◌+◌, ◌*◌, ◌/◌, ◌<◌, ◌≤◌, ℕ, zero, suc, ℤ, None, Some, IsSome, unwrap_or, List, [], ◌∷◌, ◌++◌, All, map, length, take, drop, refl, sym, ap, subst, ◌∙◌, arith, lit<, length-append, length-drop}
 use Rattle.std.proofs.Math.Nat.{mul-div_cancel}
 use Rattle.std.proofs.Math.Seq.{take-append_seam, drop-append_seam, take-append-add, drop-nil, take-nil}
 use Rattle.std.proofs.lemmas.List.{take_all, drop-drop, length-take-le, take-append-drop, get_or-drop, get_or-take, get_or_past, length-take}

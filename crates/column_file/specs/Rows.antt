@@ -1,5 +1,5 @@
 -- What reading rows of a values file gives over files that are told.
-use Rattle.std.specs.Prelude.{◌≡◌, ◌==◌, ◌*◌, ◌+◌, ◌<◌, ℕ, ℤ, List, length, Result, Ok, Err, if◌then◌else◌}
+use Rattle.std.specs.Prelude.{◌≡◌, ◌==◌, ◌*◌, ◌<◌, ℕ, ℤ, List, length, Result, Ok, Err, if◌then◌else◌}
 use Rattle.fb_types.specs.declared.types.ColType.{ColType}
 use Rattle.column_file.specs.Values.{numbers_of, width_in}
 use Rattle.column_file.specs.declared.fault.ColFault.{ColFault}

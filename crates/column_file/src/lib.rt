@@ -12,6 +12,6 @@ mod values;
 
 pub use column::{ColumnRef, MAX_ROWS_READ, open_column, read_rows};
 pub use fault::ColFault;
-pub use laws::{one_spelling, rows_of_one_width};
+pub use laws::{one_spelling, rows_of_one_width, written_files_open};
 pub use masks::{open_mask, write_mask};
 pub use values::{numbers_of_bytes, write_column};

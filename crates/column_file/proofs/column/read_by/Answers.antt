@@ -1,4 +1,4 @@
-use Rattle.std.proofs.Common.{◌≡◌, ◌*◌, length, take, ap, sym, ◌∙◌, arith}
+use Rattle.std.proofs.Common.{◌≡◌, ◌*◌, length, take, ap, sym, ◌∙◌}
 use Rattle.column_file.proofs.RowsLemmas.{all_came, rows_of_values, as_meant}
 use Rattle.column_file.proofs.column.read_by.Goals as goal
 

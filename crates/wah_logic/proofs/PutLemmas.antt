@@ -1,8 +1,10 @@
 -- What the walk of `combine` puts out.
-use Rattle.std.proofs.Common.{◌≡◌, ℕ, ◌+◌, ◌-◌, ◌*◌, ◌%◌, ◌<◌, ◌≤◌, Bool, true, false, cond, List, [], ◌++◌, length, take, drop, replicate, refl, sym, ap, ◌∙◌, arith, append_assoc, length-append}
+use Rattle.std.proofs.Common.{◌≡◌, ℕ, ◌+◌, ◌-◌, ◌*◌, ◌%◌, ◌^◌, ◌<◌, ◌≤◌, Bool, true, false, cond, List, [], ◌++◌, length, take, drop, replicate, refl, sym, ap, ◌∙◌, arith, append_assoc, length-append}
 use Rattle.std.proofs.lemmas.List.{length-replicate, replicate-append-replicate, take-append-drop, take-append-le, take-replicate, length-take-le, length-drop, append-nil}
 use Rattle.std.proofs.Math.Seq.{take-append-add}
 use Rattle.wah_words.specs.declared.run.Run.{Run}
+use Rattle.wah_words.specs.declared.run.Run.TheVariants as runs
+use Rattle.wah_words.proofs.PlacesLemmas.{length-places}
 use Rattle.wah_words.specs.Left.{run_values}
 use Rattle.wah_words.specs.Places.{places}
 use Rattle.wah_logic.specs.Logic.{each_place}
@@ -10,7 +12,7 @@ use Rattle.wah_logic.specs.Rest.{IsPart, Joins, Puts}
 use Rattle.wah_logic.proofs.WalkLemmas.{run_length, length-run_values}
 use Rattle.wah_logic.proofs.LogicLemmas.{aligned_after, out_grows}
 use Rattle.wah_logic.proofs.SwapLemmas.{each_swapped}
-use Rattle.wah_logic.proofs.JoinLemmas.{each_append, length-each, each_replicate, each_left, places_group}
+use Rattle.wah_logic.proofs.JoinLemmas.{each_append, length-each, each_replicate, each_left, places_group, joins_words, joins_word_fill, word_long}
 
 -- ---- a fill beside the words of y
 
@@ -79,4 +81,32 @@ puts_both op x y a u v b s t c h k = record {
   values = k.values ∙ h.values;
   same = k.same;
   aligned = k.aligned;
+}
+
+-- ---- after what is out already
+
+pub puts_words : (op : Bool → Bool → Bool) (x₀ y₀ out₀ : List Bool) (w z r : ℕ) (u y v out : List Bool) → Puts op x₀ y₀ out₀ (places 31 w ++ u) y out → y ≡ places 31 z ++ v → places 31 r ≡ each_place op (places 31 w) (places 31 z) → r < 2 ^ 31 → 31 + length u ≡ length y → length out % 31 ≡ 0 → Puts op x₀ y₀ out₀ u v (out ++ places 31 r)
+puts_words op x₀ y₀ out₀ w z r u y v out h e law fits same whole =
+    puts_both op x₀ y₀ out₀ (places 31 w ++ u) y out u v (out ++ places 31 r) h (puts_run op (places 31 w ++ u) y out u v (runs.Literal r) (joins_words op w z r u y v e law fits (word_long w u y same)) whole)
+
+-- a literal and a fill, of which the rest comes beside u
+pub puts_word_fill : (op : Bool → Bool → Bool) (x₀ y₀ out₀ : List Bool) (q : Bool) (n w r : ℕ) (u y v out : List Bool) → Puts op x₀ y₀ out₀ (places 31 w ++ u) y out → y ≡ replicate (31 * n) q ++ v → 0 < n → places 31 r ≡ each_place op (places 31 w) (places 31 (cond q 2147483647 0)) → r < 2 ^ 31 → 31 + length u ≡ length y → length out % 31 ≡ 0 → Puts op x₀ y₀ out₀ (drop (31 * (n - 1)) u) v ((out ++ places 31 r) ++ each_place (λ a b. op b a) (replicate (31 * (n - 1)) q) (take (31 * (n - 1)) u))
+puts_word_fill op x₀ y₀ out₀ q n w r u y v out h e some law fits same whole =
+    let m = n - 1 in
+    let one = out ++ places 31 r in
+    let more = replicate (31 * m) q ++ v in
+    let end = one ++ each_place (λ a b. op b a) (replicate (31 * m) q) (take (31 * m) u) in
+    let long : length y ≡ 31 * n + length v = ap length e ∙ length-append (replicate (31 * n) q) v ∙ ap (λ k. k + length v) (length-replicate (31 * n) q) in
+    let left : 31 * m + length v ≡ length u = omega (arith, long, same, some) in
+    let whole' : length one % 31 ≡ 0 = omega (arith, length-append out (places 31 r), length-places 31 r, whole) in
+    let first = puts_run op (places 31 w ++ u) y out u more (runs.Literal r) (joins_word_fill op q n w r u y v e some law fits (word_long w u y same)) whole in
+    let second = puts_swapped op u more one (drop (31 * m) u) v end (puts_fill (λ a b. op b a) q m v u one left whole') in
+    puts_both op x₀ y₀ out₀ (places 31 w ++ u) y out (drop (31 * m) u) v end h (puts_both op (places 31 w ++ u) y out u more one (drop (31 * m) u) v end first second)
+
+-- nothing yet
+pub puts_none : (op : Bool → Bool → Bool) (x y out : List Bool) → length x ≡ length y → length out % 31 ≡ 0 → Puts op x y out x y out
+puts_none op x y out same whole = record {
+  values = refl;
+  same = same;
+  aligned = λ some. whole;
 }

@@ -29,6 +29,11 @@ at_end old new o e h =
     let t = subst (λ x. Takes old x new) e h in
     t.0
 
+pub none_taken : (old new : Rest) (o : Option Run) → o ≡ None → Takes old o new → new.values ≡ old.values
+none_taken old new o e h =
+    let t = subst (λ x. Takes old x new) e h in
+    ap (λ r. r.values) t.1
+
 pub length-taken : (old new : Rest) (run : Run) → Takes old (Some run) new → length old.values ≡ run_length run + length new.values
 length-taken old new run h = ap length h.0 ∙ length-append (run_values run) new.values ∙ ap (λ n. n + length new.values) (length-run_values run)
 

@@ -36,7 +36,7 @@ pub(crate) fn put_run<O: BitOp, L: Ledger>(
 {
     match run {
         Run::Fill { bit, groups } => put_fill::<O, L>(bit, groups, y, out, steps),
-        Run::Literal(word) => put_literal::<O, L>(word, x, y, out, steps),
+        Run::Literal(word) => put_literals::<O, L>(word, x, y, out, steps),
         Run::Tail { bits, count } => put_tail::<O, L>(bits, count, y, out, steps),
     }
 }
@@ -94,13 +94,11 @@ fn put_beside<O: BitOp, L: Ledger>(
 {
     let mut ahead = groups;
     while ahead > 0 {
-        match y.take(steps) {
-            Some(
-                Run::Fill {
-                    bit: other,
-                    groups: most,
-                },
-            ) => {
+        match y.take_group(steps) {
+            Run::Fill {
+                bit: other,
+                groups: most,
+            } => {
                 if most > ahead {
                     out.push_fill(O::on_bit(bit, other), ahead);
                     y.put_back(other, most - ahead);
@@ -109,19 +107,19 @@ fn put_beside<O: BitOp, L: Ledger>(
                 out.push_fill(O::on_bit(bit, other), most);
                 ahead -= most;
             }
-            Some(Run::Literal(word)) => {
+            Run::Literal(word) => {
                 out.push_literal(O::on_word(group_of(bit), word));
                 ahead -= 1;
             }
-            Some(Run::Tail { .. }) => unreachable!(),
-            None => unreachable!(),
+            Run::Tail { .. } => unreachable!(),
         }
     }
 }
 
-/// Puts out the operation where a literal was taken from x, with the whole fill where y gives one.
+/// Puts out the operation where a literal was taken from x, on further literals of both, and on a fill of y that ends
+/// them.
 #[inline(always)]
-fn put_literal<O: BitOp, L: Ledger>(
+fn put_literals<O: BitOp, L: Ledger>(
     word: u32,
     x: &mut Side,
     y: &mut Side,
@@ -139,14 +137,31 @@ fn put_literal<O: BitOp, L: Ledger>(
     ensures looks { looks x.new + looks y.new ≤ looks x.old + looks y.old }
     ensures steps { steps.new + x.new.words + y.new.words ≡ steps.old + x.old.words + y.old.words }
 {
-    match y.take(steps) {
-        Some(Run::Fill { bit, groups }) => {
-            out.push_literal(O::on_word(word, group_of(bit)));
-            put_fill::<Swapped<O>, L>(bit, groups - 1, x, out, steps);
+    let mut word = word;
+    loop {
+        match y.take_group(steps) {
+            Run::Literal(other) => {
+                out.push_literal(O::on_word(word, other));
+                match x.take(steps) {
+                    Some(Run::Literal(next)) => word = next,
+                    Some(Run::Fill { bit, groups }) => {
+                        x.put_back(bit, groups);
+                        return;
+                    }
+                    Some(Run::Tail { bits, count }) => {
+                        put_tail::<O, L>(bits, count, y, out, steps);
+                        return;
+                    }
+                    None => return,
+                }
+            }
+            Run::Fill { bit, groups } => {
+                out.push_literal(O::on_word(word, group_of(bit)));
+                put_fill::<Swapped<O>, L>(bit, groups - 1, x, out, steps);
+                return;
+            }
+            Run::Tail { .. } => unreachable!(),
         }
-        Some(Run::Literal(other)) => out.push_literal(O::on_word(word, other)),
-        Some(Run::Tail { .. }) => unreachable!(),
-        None => unreachable!(),
     }
 }
 

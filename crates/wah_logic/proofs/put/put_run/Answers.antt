@@ -6,8 +6,8 @@ use Rattle.wah_logic.proofs.WalkLemmas.{length-run_values}
 use Rattle.wah_logic.proofs.PutLemmas.{puts_fill}
 use Rattle.wah_logic.proofs.put.put_run.Goals as goal
 
-pub put_literal-requires-clause-same : goal.put_literal-requires-clause-same
-put_literal-requires-clause-same g c =
+pub put_literals-requires-clause-same : goal.put_literals-requires-clause-same
+put_literals-requires-clause-same g c =
     let l = ap (λ r. length (run_values r)) c.in-Literal.is ∙ length-run_values (runs.Literal c.in-Literal.word) in
     omega (arith, l, c.requires.same)
 

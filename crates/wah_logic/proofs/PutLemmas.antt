@@ -1,5 +1,5 @@
 -- What the walk of `combine` puts out.
-use Rattle.std.proofs.Common.{◌≡◌, ℕ, ◌+◌, ◌-◌, ◌*◌, ◌%◌, ◌^◌, ◌<◌, ◌≤◌, Bool, true, false, cond, List, [], ◌++◌, length, take, drop, replicate, refl, sym, ap, ◌∙◌, arith, append_assoc, length-append}
+use Rattle.std.proofs.Common.{◌≡◌, ℕ, ◌+◌, ◌-◌, ◌*◌, ◌%◌, ◌^◌, ◌<◌, ◌≤◌, Bool, true, false, cond, List, ◌++◌, length, take, drop, replicate, refl, sym, ap, ◌∙◌, arith, length-append}
 use Rattle.std.proofs.lemmas.List.{length-replicate, replicate-append-replicate, take-append-drop, take-append-le, take-replicate, length-take-le, length-drop, append-nil}
 use Rattle.std.proofs.Math.Seq.{take-append-add}
 use Rattle.wah_words.specs.declared.run.Run.{Run}
@@ -8,8 +8,8 @@ use Rattle.wah_words.proofs.PlacesLemmas.{length-places}
 use Rattle.wah_words.specs.Left.{run_values}
 use Rattle.wah_words.specs.Places.{places}
 use Rattle.wah_logic.specs.Logic.{each_place}
-use Rattle.wah_logic.specs.Rest.{IsPart, Joins, Puts}
-use Rattle.wah_logic.proofs.WalkLemmas.{run_length, length-run_values}
+use Rattle.wah_logic.specs.Rest.{Joins, Puts}
+use Rattle.wah_logic.proofs.WalkLemmas.{length-run_values}
 use Rattle.wah_logic.proofs.LogicLemmas.{aligned_after, out_grows}
 use Rattle.wah_logic.proofs.SwapLemmas.{each_swapped}
 use Rattle.wah_logic.proofs.JoinLemmas.{each_append, length-each, each_replicate, each_left, places_group, joins_words, joins_word_fill, word_long}

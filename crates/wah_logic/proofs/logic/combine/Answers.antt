@@ -1,7 +1,5 @@
-use Rattle.std.proofs.Common.{◌≡◌, ◌%◌, ◌++◌, length, length-append, refl, ap, sym, ◌∙◌, arith}
-use Rattle.wah_words.specs.Left.{run_values}
+use Rattle.std.proofs.Common.{refl, ◌∙◌, arith}
 use Rattle.wah_words.proofs.SpellingLemmas.{words_of-nil}
-use Rattle.wah_logic.specs.Logic.{each_place}
 use Rattle.wah_logic.proofs.WalkLemmas.{taken, at_end, length-taken}
 use Rattle.wah_logic.proofs.LogicLemmas.{some_values, out_ends, before_run}
 use Rattle.wah_logic.proofs.logic.combine.Goals as goal

@@ -1,9 +1,8 @@
-use Rattle.std.proofs.Common.{◌≡◌, ◌+◌, ◌-◌, ◌*◌, ◌%◌, ◌^◌, ◌<◌, ◌≤◌, ◌++◌, Some, [], length, take, drop, replicate, refl, sym, ap, subst, ◌∙◌, arith, length-append}
+use Rattle.std.proofs.Common.{◌+◌, ◌^◌, ◌<◌, ◌++◌, Some, [], length, ap, subst, ◌∙◌, arith, length-append}
 use Rattle.std.proofs.lemmas.List.{append-nil}
 use Rattle.wah_words.specs.declared.run.Run.TheVariants as runs
 use Rattle.wah_words.specs.Places.{places}
 use Rattle.wah_words.proofs.PlacesLemmas.{length-places}
-use Rattle.wah_logic.specs.Logic.{each_place}
 use Rattle.wah_logic.specs.Rest.{Puts}
 use Rattle.wah_logic.proofs.WalkLemmas.{taken, none_taken, length-taken}
 use Rattle.wah_logic.proofs.JoinLemmas.{group_small}

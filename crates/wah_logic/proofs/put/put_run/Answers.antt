@@ -1,7 +1,6 @@
-use Rattle.std.proofs.Common.{◌≡◌, ◌+◌, ◌*◌, ◌++◌, length, replicate, ap, sym, subst, ◌∙◌, arith}
+use Rattle.std.proofs.Common.{◌≡◌, ◌+◌, ◌*◌, length, ap, ◌∙◌, arith}
 use Rattle.wah_words.specs.declared.run.Run.TheVariants as runs
 use Rattle.wah_words.specs.Left.{run_values}
-use Rattle.wah_logic.specs.Rest.{Puts}
 use Rattle.wah_logic.proofs.WalkLemmas.{length-run_values}
 use Rattle.wah_logic.proofs.PutLemmas.{puts_fill}
 use Rattle.wah_logic.proofs.put.put_run.Goals as goal

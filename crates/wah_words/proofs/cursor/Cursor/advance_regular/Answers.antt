@@ -1,4 +1,4 @@
-use Rattle.std.proofs.Common.{length, get_or, ap, sym, ◌∙◌, subst, Some}
+use Rattle.std.proofs.Common.{get_or, subst, Some}
 use Rattle.wah_words.specs.Left.{Comes, run_of_word}
 use Rattle.wah_words.specs.Bytes.{decoded}
 use Rattle.wah_words.proofs.CursorLemmas.{left, some_word, comes_split}

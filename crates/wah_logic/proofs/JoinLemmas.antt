@@ -119,10 +119,13 @@ pub group_small : (b : Bool) → cond b 2147483647 0 < 2 ^ 31
 group_small true = omega arith
 group_small false = omega arith
 
+pub tail_same : (b most count : ℕ) (y v : List Bool) → y ≡ places most b ++ v → v ≡ [] → count ≡ length y → most ≡ count
+tail_same b most count y v ey ev all = omega (arith, ap length ey, ap length ev, length-append (places most b) v, length-places most b)
+
 -- two tails
 pub joins_tails : (op : Bool → Bool → Bool) (a b r count most : ℕ) (y v : List Bool) → y ≡ places most b ++ v → v ≡ [] → count ≡ length y → (most ≡ count → places count r ≡ each_place op (places count a) (places count b)) → (most ≡ count → r < 2 ^ count) → 0 < count → count < 31 → Joins op (places count a) y (runs.Tail r count) [] v
 joins_tails op a b r count most y v ey ev all law fits some few =
-    let same : most ≡ count = omega (arith, ap length ey, ap length ev, length-append (places most b) v, length-places most b) in
+    let same : most ≡ count = tail_same b most count y v ey ev all in
     let ey' : y ≡ places count b ++ v = rw same at ey in
     joins_front op (places count a) y (places count a) (places count b) [] v (runs.Tail r count) (sym (append-nil (places count a))) ey' (length-places count a ∙ sym (length-places count b)) (sym (law same)) (length-places count a ∙ all) (some, few, fits same, refl)
 

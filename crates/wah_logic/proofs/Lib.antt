@@ -6,3 +6,5 @@ pub mod OnesLemmas
 pub mod NotLemmas
 pub mod UnionLemmas
 pub mod PairLemmas
+pub mod SwapLemmas
+pub mod PutLemmas

@@ -1,5 +1,5 @@
 -- Fronts of lists of truth values, and the operation on them.
-use Rattle.std.proofs.Common.{◌≡◌, ℕ, ◌+◌, ◌-◌, ◌*◌, ◌<◌, ◌≤◌, Bool, List, ◌++◌, length, drop, replicate, Option, Some, sym, ap, subst, ◌∙◌, arith, length-append}
+use Rattle.std.proofs.Common.{◌≡◌, ℕ, ◌+◌, ◌-◌, ◌*◌, ◌<◌, ◌≤◌, Bool, List, [], ◌++◌, length, drop, replicate, Option, Some, None, sym, ap, subst, ◌∙◌, arith, length-append}
 use Rattle.std.proofs.lemmas.List.{length-replicate, drop-append-le, drop-replicate}
 use Rattle.std.proofs.Math.Seq.{drop-append-add}
 use Rattle.wah_words.specs.declared.run.Run.{Run}
@@ -23,6 +23,16 @@ length-run_values (runs.Tail bits count) = length-places count bits
 
 pub taken : (old new : Rest) (o : Option Run) (run : Run) → o ≡ Some run → Takes old o new → Takes old (Some run) new
 taken old new o run e h = subst (λ x. Takes old x new) e h
+
+pub at_end : (old new : Rest) (o : Option Run) → o ≡ None → Takes old o new → old.values ≡ []
+at_end old new o e h =
+    let t = subst (λ x. Takes old x new) e h in
+    t.0
+
+pub none_taken : (old new : Rest) (o : Option Run) → o ≡ None → Takes old o new → new.values ≡ old.values
+none_taken old new o e h =
+    let t = subst (λ x. Takes old x new) e h in
+    ap (λ r. r.values) t.1
 
 pub length-taken : (old new : Rest) (run : Run) → Takes old (Some run) new → length old.values ≡ run_length run + length new.values
 length-taken old new run h = ap length h.0 ∙ length-append (run_values run) new.values ∙ ap (λ n. n + length new.values) (length-run_values run)

@@ -1,5 +1,5 @@
 -- One of two vectors that are walked in lockstep, and what one turn of the walk gives.
-use Rattle.std.specs.Prelude.{◌≡◌, ℕ, ◌+◌, ◌^◌, ◌<◌, Bool, List, [], ◌++◌, length, Option, None, Some}
+use Rattle.std.specs.Prelude.{◌≡◌, ℕ, ◌+◌, ◌%◌, ◌^◌, ◌<◌, Bool, List, [], ◌++◌, length, Option, None, Some}
 use Rattle.wah_words.specs.declared.run.Run.{Run}
 use Rattle.wah_words.specs.declared.run.Run.TheVariants as runs
 use Rattle.wah_words.specs.Left.{run_values}
@@ -36,3 +36,10 @@ pub record Joins (op : Bool → Bool → Bool) (x y : List Bool) (run : Run) (u 
 abbrev pub Turns : (Bool → Bool → Bool) → Rest → Rest → Option Run → Rest → Rest → Type 0
 Turns op a b None c d = (a.values ≡ []) × (b.values ≡ [])
 Turns op a b (Some run) c d = Joins op a.values b.values run c.values d.values × (looks c + looks d < looks a + looks b)
+
+-- What was put out grows by the operation on fronts of x and y, after which u and v are left; more comes after whole
+-- groups only.
+pub record Puts (op : Bool → Bool → Bool) (x y out u v grown : List Bool) : Type 0 where
+  pub values : grown ++ each_place op u v ≡ out ++ each_place op x y
+  pub same : length u ≡ length v
+  pub aligned : 0 < length u → length grown % 31 ≡ 0

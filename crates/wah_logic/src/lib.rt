@@ -5,6 +5,7 @@
 mod lockstep;
 mod logic;
 mod ops;
+mod put;
 mod side;
 mod turn;
 mod unions;

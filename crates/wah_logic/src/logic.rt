@@ -6,6 +6,7 @@ ghost use Rattle.wah_logic.specs.Logic.{each_place, and, ones};
 ghost use Rattle.wah_logic.specs.Rest.{IsPart};
 
 use crate::ops::{And, BitOp};
+use crate::put::put_run;
 use crate::side::Side;
 use crate::turn::next_run;
 use std::alloc::{AllocError, Global};
@@ -32,6 +33,7 @@ fn push_run(out: &mut Builder, run: Run)
 }
 
 /// The operation at each place of two vectors of one length. `out` is empty and has the room; it takes no memory.
+#[inline(never)]
 pub fn combine<O: BitOp, L: Ledger>(a: &Wah, b: &Wah, out: Builder, steps: &mut Steps<L>) -> Wah
     requires same { length a.now ≡ length b.now }
     requires empty { out.values ≡ [] }
@@ -43,8 +45,8 @@ pub fn combine<O: BitOp, L: Ledger>(a: &Wah, b: &Wah, out: Builder, steps: &mut 
     let mut out = out;
     let mut x = Side::over(a);
     let mut y = Side::over(b);
-    while let Some(run) = next_run::<O, L>(&mut x, &mut y, steps) {
-        push_run(&mut out, run);
+    while let Some(run) = x.take(steps) {
+        put_run::<O, L>(run, &mut x, &mut y, &mut out, steps);
     }
     out.finish()
 }

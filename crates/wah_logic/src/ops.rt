@@ -3,6 +3,8 @@ ghost use Rattle.std.specs.Prelude.{◌≡◌, ℕ, ◌^◌, ◌<◌, Bool};
 ghost use Rattle.wah_words.specs.Places.{places};
 ghost use Rattle.wah_logic.specs.Logic.{each_place, and, or, xor, and_not};
 
+use std::marker::PhantomData;
+
 /// An operation on truth values that works on whole words as well.
 pub trait BitOp {
     ghost op: { Bool → Bool → Bool };
@@ -87,5 +89,24 @@ impl BitOp for AndNot {
     #[inline(always)]
     fn on_word(a: u32, b: u32) -> u32 {
         a & (a ^ b)
+    }
+}
+
+/// The operation with its operands swapped.
+pub(crate) struct Swapped<O> {
+    of: PhantomData<O>,
+}
+
+impl<O: BitOp> BitOp for Swapped<O> {
+    ghost op = { λ x y. O.op y x };
+
+    #[inline(always)]
+    fn on_bit(a: bool, b: bool) -> bool {
+        O::on_bit(b, a)
+    }
+
+    #[inline(always)]
+    fn on_word(a: u32, b: u32) -> u32 {
+        O::on_word(b, a)
     }
 }

@@ -1,5 +1,5 @@
 //! One of two vectors that are walked in lockstep.
-ghost use Rattle.std.specs.Prelude.{◌≡◌, ◌+◌, ◌*◌, ◌<◌, ◌≤◌, ◌++◌, ◌==◌, if◌then◌else◌, length, drop, replicate};
+ghost use Rattle.std.specs.Prelude.{◌≡◌, ◌+◌, ◌*◌, ◌<◌, ◌≤◌, ◌++◌, ◌==◌, if◌then◌else◌, Some, length, drop, replicate};
 ghost use Rattle.wah_words.specs.Spelling.{words_of};
 ghost use Rattle.wah_logic.specs.Rest.{Takes, looks};
 
@@ -59,6 +59,25 @@ impl<'a> Side<'a> {
         self.cursor.advance(steps)
     }
 
+    /// The same where a group is to come.
+    #[inline(always)]
+    pub(crate) fn take_group<L: Ledger>(&mut self, steps: &mut Steps<L>) -> Run
+        requires { 31 ≤ length self.old.values }
+        ensures takes { Takes self.old (Some result) self.new }
+        ensures fills { self.new.fills ≡ 0 }
+        ensures steps { steps.new + self.new.words ≡ steps.old + self.old.words }
+    {
+        if self.left > 0 {
+            let groups = self.left;
+            self.left = 0;
+            return Run::Fill {
+                bit: self.bit,
+                groups,
+            };
+        }
+        self.cursor.advance_regular(steps)
+    }
+
     /// Puts the rest of a fill before what is left.
     #[inline(always)]
     pub(crate) fn put_back(&mut self, bit: bool, groups: u32)
@@ -81,17 +100,16 @@ impl<'a> Side<'a> {
     {
         let mut ahead = groups;
         while ahead > 0 {
-            match self.take(steps) {
-                Some(Run::Fill { bit, groups: most }) => {
+            match self.take_group(steps) {
+                Run::Fill { bit, groups: most } => {
                     if most > ahead {
                         self.put_back(bit, most - ahead);
                         return;
                     }
                     ahead -= most;
                 }
-                Some(Run::Literal(_)) => ahead -= 1,
-                Some(Run::Tail { .. }) => unreachable!(),
-                None => unreachable!(),
+                Run::Literal(_) => ahead -= 1,
+                Run::Tail { .. } => unreachable!(),
             }
         }
     }

@@ -51,3 +51,13 @@ pub comes_none : (items : List ℕ) (active count : ℕ) → length items < 1 �
 unfolding told places
 comes_none [] active count none e = rw e (refl, refl, refl)
 comes_none (x ∷ xs) active count none e = absurd (omega arith)
+
+-- a list with a group has a word
+pub some_word : (items : List ℕ) (active count : ℕ) → IsLeft items active count → 31 ≤ length (left items active count).values → 1 ≤ length items
+unfolding told
+some_word [] active count h some = absurd (omega (arith, h.rest, length-places count active))
+some_word (x ∷ xs) active count h some = omega arith
+
+pub comes_split : (items front back : List ℕ) (active count d : ℕ) → IsLeft items active count → 1 ≤ length items → front ≡ take 1 items → back ≡ drop 1 items → Comes (left items active count) (Some (run_of_word (decoded (get_or front 0 d)))) (left back active count)
+comes_split [] front back active count d h some ef eb = absurd (omega arith)
+comes_split (x ∷ xs) front back active count d h some ef eb = rw (ef, eb) (comes_word (x ∷ xs) x xs active count h refl)

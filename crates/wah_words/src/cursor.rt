@@ -1,4 +1,4 @@
-ghost use Rattle.std.specs.Prelude.{◌≡◌, ℕ, ◌+◌, ◌<◌, ◌↔◌, IsSome, is_some, if◌then◌else◌};
+ghost use Rattle.std.specs.Prelude.{◌≡◌, ℕ, ◌+◌, ◌<◌, ◌≤◌, ◌↔◌, length, Some, IsSome, is_some, if◌then◌else◌};
 ghost use Rattle.wah_words.specs.Spelling.{words_of};
 ghost use Rattle.wah_words.specs.Left.{Comes};
 
@@ -64,5 +64,18 @@ impl<'a> Cursor<'a> {
                 Some(run)
             }
         }
+    }
+
+    /// The next word where a group is to come, which is a regular one.
+    #[inline(always)]
+    pub fn advance_regular<L: Ledger>(&mut self, steps: &mut Steps<L>) -> Run
+        requires { 31 ≤ length self.old.values }
+        ensures comes { Comes self.old (Some result) self.new }
+        ensures steps { steps.new ≡ steps.old + 1 }
+    {
+        steps.tick();
+        let (word, after) = self.regular.split_at(1);
+        self.regular = after;
+        run_of(word[0])
     }
 }

@@ -47,6 +47,20 @@ fn runs_of<L: Ledger>(blank: Blank, alloc: Global, vector: &Wah) -> Result<Vec<R
     Ok(runs)
 }
 
+/// The first word of a vector that has a group.
+fn first_of<L: Ledger>(blank: Blank, vector: &Wah) -> Option<Run>
+    requires ledger { blank.name ≡ L.name }
+    requires parts { blank.parts ≡ L.parts }
+    requires some { 0 < blank.parts }
+{
+    if vector.len() < 31 {
+        return None;
+    }
+    let mut steps = Steps::<L>::new(blank);
+    let mut cursor = vector.cursor();
+    Some(cursor.advance_regular(&mut steps))
+}
+
 const ONES: &[(bool, u32)] = &[(true, 31)];
 
 const ONES_AND_ONE: &[(bool, u32)] = &[(true, 32)];
@@ -107,6 +121,8 @@ fn a_cursor_gives_the_runs_in_order(rt: HostRuntime) -> Result<(), Fail> {
         },
     ];
     assert_eq!(rt; runs.as_slice(), want.as_slice());
+    let first = first_of::<Brand>(Blank::new(1), &vector);
+    assert_eq!(rt; first, Some(Run::Literal(0x4000_0380)));
     Ok(())
 }
 

@@ -6,18 +6,18 @@ use Rattle.wah_logic.proofs.side.Side.pass.Goals as goal
 
 pub returns-then-most-ahead-clause-values : goal.returns-then-most-ahead-clause-values
 returns-then-most-ahead-clause-values g c =
-    let run = runs.Fill c.in-Some-Fill.bit c.in-Some-Fill.most in
-    let t = taken c.loop-ahead.self c.take.new.self c.take.result run (c.in-Some-Fill.is ∙ ap (λ r. Some r) c.in-Some-Fill.field-0-is) c.take.ensures.takes in
-    c.put_back.ensures.values ∙ passed_in c.in-Some-Fill.bit c.take.new.self.values c.loop-ahead.self.values (drop (31 * c.args.groups) c.args.self.now.values) c.in-Some-Fill.most c.loop-ahead.ahead t.0 c.if-most-ahead.true c.loop-ahead.invariant.values
+    let run = runs.Fill c.in-Fill.bit c.in-Fill.most in
+    let t = taken c.loop-ahead.self c.take_group.new.self (Some c.take_group.result) run (ap (λ r. Some r) c.in-Fill.is) c.take_group.ensures.takes in
+    c.put_back.ensures.values ∙ passed_in c.in-Fill.bit c.take_group.new.self.values c.loop-ahead.self.values (drop (31 * c.args.groups) c.args.self.now.values) c.in-Fill.most c.loop-ahead.ahead t.0 c.if-most-ahead.true c.loop-ahead.invariant.values
 
-pub loop-ahead-preserved-in-Some-Fill : goal.loop-ahead-preserved-in-Some-Fill
-loop-ahead-preserved-in-Some-Fill g c =
-    let run = runs.Fill c.in-Some-Fill.bit c.in-Some-Fill.most in
-    let t = taken c.loop-ahead.self c.take.new.self c.take.result run (c.in-Some-Fill.is ∙ ap (λ r. Some r) c.in-Some-Fill.field-0-is) c.take.ensures.takes in
-    let l = length-taken c.loop-ahead.self c.take.new.self run t in
-    let at : 31 * c.loop-ahead.ahead ≡ 31 * c.in-Some-Fill.most + 31 * (c.loop-ahead.ahead - c.in-Some-Fill.most) = omega arith in
+pub loop-ahead-preserved-in-Fill : goal.loop-ahead-preserved-in-Fill
+loop-ahead-preserved-in-Fill g c =
+    let run = runs.Fill c.in-Fill.bit c.in-Fill.most in
+    let t = taken c.loop-ahead.self c.take_group.new.self (Some c.take_group.result) run (ap (λ r. Some r) c.in-Fill.is) c.take_group.ensures.takes in
+    let l = length-taken c.loop-ahead.self c.take_group.new.self run t in
+    let at : 31 * c.loop-ahead.ahead ≡ 31 * c.in-Fill.most + 31 * (c.loop-ahead.ahead - c.in-Fill.most) = omega arith in
     record {
-      values = passed (run_values run) c.take.new.self.values c.loop-ahead.self.values (drop (31 * c.args.groups) c.args.self.now.values) (31 * c.loop-ahead.ahead) (31 * (c.loop-ahead.ahead - c.in-Some-Fill.most)) (31 * c.in-Some-Fill.most) t.0 (length-run_values run) at c.loop-ahead.invariant.values;
+      values = passed (run_values run) c.take_group.new.self.values c.loop-ahead.self.values (drop (31 * c.args.groups) c.args.self.now.values) (31 * c.loop-ahead.ahead) (31 * (c.loop-ahead.ahead - c.in-Fill.most)) (31 * c.in-Fill.most) t.0 (length-run_values run) at c.loop-ahead.invariant.values;
       enough = omega arith;
       looks = omega (arith, t.1);
       steps = omega arith;
@@ -25,12 +25,12 @@ loop-ahead-preserved-in-Some-Fill g c =
 
 pub loop-ahead-preserved : goal.loop-ahead-preserved
 loop-ahead-preserved g c =
-    let run = runs.Literal c.in-Some-Literal.field-0-0 in
-    let t = taken c.loop-ahead.self c.take.new.self c.take.result run (c.in-Some-Literal.is ∙ ap (λ r. Some r) c.in-Some-Literal.field-0-is) c.take.ensures.takes in
-    let l = length-taken c.loop-ahead.self c.take.new.self run t in
+    let run = runs.Literal c.in-Literal.field-0 in
+    let t = taken c.loop-ahead.self c.take_group.new.self (Some c.take_group.result) run (ap (λ r. Some r) c.in-Literal.is) c.take_group.ensures.takes in
+    let l = length-taken c.loop-ahead.self c.take_group.new.self run t in
     let at : 31 * c.loop-ahead.ahead ≡ 31 + 31 * (c.loop-ahead.ahead - 1) = omega arith in
     record {
-      values = passed (run_values run) c.take.new.self.values c.loop-ahead.self.values (drop (31 * c.args.groups) c.args.self.now.values) (31 * c.loop-ahead.ahead) (31 * (c.loop-ahead.ahead - 1)) 31 t.0 (length-run_values run) at c.loop-ahead.invariant.values;
+      values = passed (run_values run) c.take_group.new.self.values c.loop-ahead.self.values (drop (31 * c.args.groups) c.args.self.now.values) (31 * c.loop-ahead.ahead) (31 * (c.loop-ahead.ahead - 1)) 31 t.0 (length-run_values run) at c.loop-ahead.invariant.values;
       enough = omega arith;
       looks = omega (arith, t.1);
       steps = omega arith;
@@ -38,7 +38,7 @@ loop-ahead-preserved g c =
 
 pub unreachable-requires : goal.unreachable-requires
 unreachable-requires g c =
-    let run = runs.Tail c.in-Some-Tail.field-0-0 c.in-Some-Tail.field-0-1 in
-    let t = taken c.loop-ahead.self c.take.new.self c.take.result run (c.in-Some-Tail.is ∙ ap (λ r. Some r) c.in-Some-Tail.field-0-is) c.take.ensures.takes in
-    let l = length-taken c.loop-ahead.self c.take.new.self run t in
+    let run = runs.Tail c.in-Tail.bits c.in-Tail.count in
+    let t = taken c.loop-ahead.self c.take_group.new.self (Some c.take_group.result) run (ap (λ r. Some r) c.in-Tail.is) c.take_group.ensures.takes in
+    let l = length-taken c.loop-ahead.self c.take_group.new.self run t in
     omega (arith, t.2.1, ap length t.2.3)

@@ -92,22 +92,21 @@ leaves_none effects w status old new none h same =
 
 -- ---- the same in the words of the call
 
-module _ (dir query bytes : List ℕ) (old new : Option Files) (before now : Option (List ℕ)) (status : Status) (w : World) (h : StandsFor old w) where
-  replies_over : (old : Option Files) → StandsFor old w → IsPath dir → CountRuns dir query old before now status
-      → Replies (count_outcome dir query w) status before now
-  replies_over None h proper runs = absurd h
-  replies_over (Some m) h proper runs = replies dir query m before now status w proper h runs
+replies_over : (dir query : List ℕ) (old : Option Files) (before now : Option (List ℕ)) (status : Status) (w : World) → StandsFor old w → IsPath dir
+    → CountRuns dir query old before now status → Replies (count_outcome dir query w) status before now
+replies_over dir query None before now status w h proper runs = absurd h
+replies_over dir query (Some m) before now status w h proper runs = replies dir query m before now status w proper h runs
 
-  pub asked_replies : (asked : Option Job) → Some (Ibis dir query) ≡ asked → IsPath dir → CountRuns dir query old before now status
-      → Replies (outcome asked bytes w) status before now
-  asked_replies asked is proper runs =
-      subst (λ (a : Option Job). Replies (outcome a bytes w) status before now) is (replies_over old h proper runs)
+pub asked_replies : (asked : Option Job) (dir query bytes : List ℕ) (old : Option Files) (before now : Option (List ℕ)) (status : Status) (w : World)
+    → StandsFor old w → Some (Ibis dir query) ≡ asked → IsPath dir → CountRuns dir query old before now status → Replies (outcome asked bytes w) status before now
+asked_replies asked dir query bytes old before now status w h is proper runs =
+    subst (λ (a : Option Job). Replies (outcome a bytes w) status before now) is (replies_over dir query old before now status w h proper runs)
 
-  pub asked_leaves : (asked : Option Job) → Some (Ibis dir query) ≡ asked → SameFiles old new
-      → LeavesAfter (outcome asked bytes w).effects w status new
-  asked_leaves asked is same =
-      subst (λ (a : Option Job). LeavesAfter (outcome a bytes w).effects w status new) is
-      (leaves_none (count_outcome dir query w).effects w status old new (no_effects _) h same)
+pub asked_leaves : (asked : Option Job) (dir query bytes : List ℕ) (old new : Option Files) (status : Status) (w : World)
+    → StandsFor old w → Some (Ibis dir query) ≡ asked → SameFiles old new → LeavesAfter (outcome asked bytes w).effects w status new
+asked_leaves asked dir query bytes old new status w h is same =
+    subst (λ (a : Option Job). LeavesAfter (outcome a bytes w).effects w status new) is
+    (leaves_none (count_outcome dir query w).effects w status old new (no_effects _) h same)
 
 module _ (dir query : List ℕ) (left : Option (List ℕ)) (old new : Option Files) (before now : Option (List ℕ)) (status : Status) where
   pub asked_keeps : (asked : Option Job) → SameFiles old new → ChangesAmong (IsOfRequest asked) old new
@@ -131,6 +130,12 @@ module _ (dir query : List ℕ) (left : Option (List ℕ)) (old new : Option Fil
   asked_read (Counts count comes prints) = not_read Done _ before now status refl prints
   asked_read (Declines refusal comes prints) = not_read refusal _ before now status (IsRefusal-count dir query old refusal comes).no_fault prints
   asked_read (Stops quiet is) = not_unread status is
+
+-- its input isn't looked at, and so doesn't fail
+pub asked_read_cause : (dir query : List ℕ) (old : Option Files) (before now : Option (List ℕ)) (status : Status) (i : ℕ)
+    → CountRuns dir query old before now status → HasCause i i (status ≡ ReadFault)
+asked_read_cause dir query old before now status i runs =
+    record { later = omega arith; rose = λ e. absurd (asked_read dir query None old None before now status runs e) }
 
 -- a question reads no input
 pub asked_takes : (asked : Option Job) (dir query : List ℕ) → Some (Ibis dir query) ≡ asked → reads_input asked ≡ true → ⊥

@@ -190,13 +190,25 @@ fn refuses_and_writes_nothing(rt: HostRuntime) -> Result<(), Fail> {
             ["ardea", "-d", "u", "-m", "by:int"],
             "",
             2,
-            "error 2 schema at column 1 BadType\n",
+            "error 2 schema at column 1 BadName\n",
         ),
         (
-            ["ardea", "-d", "u", "-m", "a: int"],
+            ["ardea", "-d", "u", "-m", " "],
+            "",
+            2,
+            "error 2 schema at column 0 Empty\n",
+        ),
+        (
+            ["ardea", "-d", "u", "-m", "a:int,b:int"],
             "x\n",
             2,
-            "error 2 schema at column 1 BadType\n",
+            "error 2 schema at column 2 BadType\n",
+        ),
+        (
+            ["ardea", "-d", "u", "-m", "a:int,A:int"],
+            "x\n",
+            2,
+            "error 2 schema at column 2 Repeated\n",
         ),
         (
             ["ardea", "-d", "u/", "-m", "a:int"],
@@ -224,6 +236,155 @@ fn refuses_and_writes_nothing(rt: HostRuntime) -> Result<(), Fail> {
         )?;
     }
     assert!(rt; store.name(0).is_none(), "a refused load writes nothing");
+    Ok(())
+}
+
+/// Asks a dataset in a store for a count.
+fn expect_asked<R: Abort + AllocGlobal>(
+    rt: &R,
+    store: &mut MemStore,
+    dir: &'static str,
+    query: &'static str,
+    code: u8,
+    printed: &'static str,
+) -> Result<(), AllocError> {
+    expect(
+        rt,
+        store,
+        &make_case(["ibis", "-d", dir, "-q", query], b"", code, printed),
+    )
+}
+
+#[test]
+fn counts_by_one_comparison(rt: HostRuntime) -> Result<(), Fail> {
+    let mut store = MemStore::make(rt.alloc(), &[], 0)?;
+    expect(
+        &rt,
+        &mut store,
+        &make_case(LOAD_T, b"1\n2\n3\n", 0, "loaded 3 rows\n"),
+    )?;
+    expect(
+        &rt,
+        &mut store,
+        &make_case(
+            ["ardea", "-d", "v", "-m", " B : int "],
+            b"",
+            0,
+            "loaded 0 rows\n",
+        ),
+    )?;
+    for (dir, query, code, printed) in [
+        ("t", "where A < 3", 0, "hits 2\n"),
+        ("t", "WHERE\na<+1", 0, "hits 0\n"),
+        ("t", "where a < -2147483649", 0, "hits 0\n"),
+        ("t", "where a<99999999999", 0, "hits 3\n"),
+        ("v", "where b < 7", 0, "hits 0\n"),
+        ("t", "where a <", 6, "error 6 query Syntax\n"),
+        ("t", "a < 3", 6, "error 6 query Syntax\n"),
+        ("E", "", 6, "error 6 query Syntax\n"),
+        (
+            "E",
+            "where a < 170141183460469231731687303715884105728",
+            6,
+            "error 6 query Literal\n",
+        ),
+        ("t", "where z < 3", 6, "error 6 query Unknown z\n"),
+        ("v", "where a < 3", 6, "error 6 query Unknown a\n"),
+        ("E", "where a < 3", 7, "error 7 missing E/-catalog.txt\n"),
+        ("t/", "where a < 3", 1, "error 1 usage\n"),
+    ] {
+        expect_asked(&rt, &mut store, dir, query, code, printed)?;
+    }
+    Ok(())
+}
+
+#[test]
+fn names_each_damaged_file(rt: HostRuntime) -> Result<(), Fail> {
+    let text = "error 8 damaged t/-catalog.txt Text\n";
+    let length = "error 8 damaged t/p0000/a Length\n";
+    let catalog = "t/-catalog.txt";
+    let mut store = MemStore::make(rt.alloc(), &[], 0)?;
+    assert_eq!(rt; store.put(catalog, CATALOG), Ok(()));
+    expect_asked(
+        &rt,
+        &mut store,
+        "t",
+        "where a < 3",
+        8,
+        "error 8 damaged t/p0000/a Missing\n",
+    )?;
+    for (file, bytes, code, printed) in [
+        ("t/p0000/a", b"1234567890123".as_slice(), 8, length),
+        ("t/p0000/a", b"".as_slice(), 8, length),
+        ("t/p0000/a", b"\xff\xff\xff\xff".as_slice(), 0, "hits 1\n"),
+        (catalog, b"".as_slice(), 8, text),
+        (
+            catalog,
+            b"fastbit catalog 1\nschema a:int\nnext 1\npart 0".as_slice(),
+            8,
+            text,
+        ),
+        (
+            catalog,
+            b"fastbit catalog 1\nschema a:int\nnext 2\npart 0\n".as_slice(),
+            8,
+            text,
+        ),
+        (
+            catalog,
+            b"fastbit catalog 1\nschema a:byte\nnext 1\npart 0\n".as_slice(),
+            8,
+            text,
+        ),
+    ] {
+        assert_eq!(rt; store.put(file, bytes), Ok(()));
+        expect_asked(&rt, &mut store, "t", "where a < 3", code, printed)?;
+    }
+    Ok(())
+}
+
+#[test]
+fn counts_over_many_blocks(rt: HostRuntime) -> Result<(), Fail> {
+    let mut store = MemStore::make(rt.alloc(), &[], 0)?;
+    let mut bytes = Vec::new(rt.alloc());
+    for _ in 0..250_000 {
+        bytes.extend_from_slice(b"\x01\x00\x00\x00\x02\x00\x00\x00")?;
+    }
+    assert_eq!(rt; store.put("t/-catalog.txt", CATALOG), Ok(()));
+    assert_eq!(rt; store.put("t/p0000/a", &bytes), Ok(()));
+    expect_asked(&rt, &mut store, "t", "where a < 2", 0, "hits 250000\n")?;
+    expect_asked(&rt, &mut store, "t", "where a < 3", 0, "hits 500000\n")?;
+    bytes.extend_from_slice(b"\x01\x00\x00\x00")?;
+    assert_eq!(rt; store.put("t/p0000/a", &bytes), Ok(()));
+    expect_asked(
+        &rt,
+        &mut store,
+        "t",
+        "where a < 2",
+        8,
+        "error 8 damaged t/p0000/a Length\n",
+    )?;
+    Ok(())
+}
+
+#[test]
+fn a_question_to_a_failing_store_is_not_answered(rt: HostRuntime) -> Result<(), Fail> {
+    for (call, code, printed) in [
+        (2, 11, ""),
+        (3, 11, ""),
+        (4, 11, ""),
+        (5, 11, ""),
+        (6, 0, "hits 1\n"),
+    ] {
+        let fail = FailAt {
+            call,
+            keep_new: false,
+        };
+        let mut store = MemStore::make(rt.alloc(), &[fail], 0)?;
+        assert_eq!(rt; store.put("t/-catalog.txt", CATALOG), Ok(()));
+        assert_eq!(rt; store.put("t/p0000/a", b"\x01\x00\x00\x00"), Ok(()));
+        expect_asked(&rt, &mut store, "t", "where a < 3", code, printed)?;
+    }
     Ok(())
 }
 

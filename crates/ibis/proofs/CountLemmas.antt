@@ -87,7 +87,7 @@ abbrev one : List ℕ → List Column
 one name = record { name = name; ty = Int } ∷ []
 
 -- the name of a condition is that of its clause
-names-one : (condition : Atom) → names_in (One condition) ≡ column_of condition ∷ []
+pub names-one : (condition : Atom) → names_in (One condition) ≡ column_of condition ∷ []
 names-one condition =
     ap (fold-Clause (List (List ℕ)) names_by_parts) (sym (rolls-One condition)) ∙ fold-roll-Clause (List (List ℕ)) names_by_parts (Clause-F.One condition)
 
@@ -173,6 +173,7 @@ scanned files dir file c catalog part others result loaded parts e named h = by 
     over (Some m) r h =
         h ∙ ap (λ (f : List ℕ). passing_in f (meets c) (file_at m f)) named
         ∙ scanned_by m dir c catalog loaded.schema.name part others loaded.schema.is parts e
+
     by : (result : Result ℕ Stop) → PassesIn file (meets c) files result → Counts files dir (clause_of_comparison c) catalog result
     by (Ok count) h = (h.0, over files (Ok count) h.1)
     by (Err (Refused status)) h = (h.0, over files (Err status) h.1)

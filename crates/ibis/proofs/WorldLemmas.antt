@@ -21,7 +21,6 @@ use Rattle.part_meta.specs.declared.catalog.Catalog.{Catalog}
 use Rattle.part_meta.specs.CatalogText.{catalog_text}
 use Rattle.part_meta.specs.FileNames.{catalog_name, values_name}
 use Rattle.part_meta.proofs.CatalogLemmas.{catalog_text-injective}
-
 use Rattle.world.specs.World.{Dataset, Partition, World, IsDataset, IsNumber, IsNoPart, IsOneInt, IsOnePart, dataset_at, records_of}
 use Rattle.world.specs.Stands.{IsLoaded, PartRests, Rests, Stands, catalog_data, column_numbers, stored_number}
 use Rattle.statuses.specs.declared.Status.{Status}

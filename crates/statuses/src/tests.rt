@@ -1,4 +1,6 @@
 use super::*;
+use fb_types::ColName;
+use std::process::Abort;
 use std::test::Fail;
 
 #[test]
@@ -45,5 +47,64 @@ fn numbers_and_lines(rt: HostRuntime) -> Result<(), Fail> {
         assert_eq!(rt; status.code(), code);
         assert_eq!(rt; status.line(rt.alloc())?.as_str(), line);
     }
+    Ok(())
+}
+
+/// The file of this name.
+fn named<R: Abort + AllocGlobal>(rt: &R, name: &str) -> Result<FileName, AllocError> {
+    match FileName::from_str(rt.alloc(), name)? {
+        Some(file) => Ok(file),
+        None => rt.panic("no file's name"),
+    }
+}
+
+/// The column of this name.
+fn column<R: Abort + AllocGlobal>(rt: &R, name: &str) -> Result<ColName, AllocError> {
+    match ColName::from_bytes(rt.alloc(), name.as_bytes())? {
+        Some(column) => Ok(column),
+        None => rt.panic("no column's name"),
+    }
+}
+
+/// The number and the line of a status.
+fn check<R: Abort + AllocGlobal>(
+    rt: &R,
+    status: &Status,
+    code: u8,
+    line: &str,
+) -> Result<(), AllocError> {
+    assert!(rt; status.code() == code, "{line}");
+    let have = status.line(rt.alloc())?;
+    assert!(rt; have.as_str() == line, "{line}");
+    Ok(())
+}
+
+#[test]
+fn numbers_and_lines_of_questions(rt: HostRuntime) -> Result<(), Fail> {
+    let unknown = QueryKind::Unknown(column(&rt, "Z_1")?);
+    let damaged = Status::Damaged {
+        file: named(&rt, "t/p0000/a")?,
+        kind: DamageKind::Length,
+        want: 0,
+        have: 13,
+    };
+    let missing = Status::NoDataset {
+        file: named(&rt, "E/-catalog.txt")?,
+    };
+    let literal = QueryKind::Literal;
+    check(
+        &rt,
+        &Status::BadQuery { kind: literal },
+        6,
+        "error 6 query Literal\n",
+    )?;
+    check(
+        &rt,
+        &Status::BadQuery { kind: unknown },
+        6,
+        "error 6 query Unknown z_1\n",
+    )?;
+    check(&rt, &missing, 7, "error 7 missing E/-catalog.txt\n")?;
+    check(&rt, &damaged, 8, "error 8 damaged t/p0000/a Length\n")?;
     Ok(())
 }

@@ -1,5 +1,5 @@
 -- What a load leaves behind its answers, from what its steps answer.
-use Rattle.std.proofs.Common.{◌≡◌, inl, inr, ℕ, Bool, true, false, List, Option, Some, None, IfSome, is_some, Err, refl, arith}
+use Rattle.std.proofs.Common.{◌≡◌, inl, inr, ℕ, Bool, true, false, List, Option, Some, None, IfSome, is_some, Err, refl}
 use Rattle.fb_outside.specs.Files.{Files, file_at}
 use Rattle.fb_types.specs.Table.{Table, AllFit}
 use Rattle.command_words.specs.declared.Load.{Load}

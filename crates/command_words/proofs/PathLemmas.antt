@@ -1,8 +1,7 @@
 -- The test of a path decides what a path is, and a path is a file's name.
-use Rattle.std.proofs.Common.{◌≡◌, ◌≤◌, ◌&&◌, ℕ, Bool, true, false, List, [], ◌∷◌, length, nat_le, Option, Some, None, IsSome, is_some, if◌then◌else◌, refl, sym, ap, subst, ◌∙◌, arith}
+use Rattle.std.proofs.Common.{◌≡◌, ◌&&◌, ℕ, Bool, true, false, List, length, nat_le, Option, Some, None, IsSome, is_some, if◌then◌else◌, refl, sym, ap, subst, ◌∙◌, arith}
 use Rattle.std.proofs.lemmas.Bool.{leb-true, le-leb}
-use Rattle.std.specs.List.{AllByRecursion}
-use Rattle.fb_outside.specs.Names.{IsPath, IsPiece, IsFileName}
+use Rattle.fb_outside.specs.Names.{IsPath, IsFileName}
 use Rattle.fb_outside.specs.NameTests.{are_pieces}
 use Rattle.fb_outside.proofs.JoinLemmas.{IsName-more}
 use Rattle.fb_outside.proofs.NameLemmas.{IsName-from_test, test-from_IsName}

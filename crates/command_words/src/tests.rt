@@ -1,72 +1,84 @@
 use super::*;
+use std::process::Abort;
 use std::test::Fail;
 
-/// The command's name, the path and the value of a request; empty texts of what is none.
-fn told(found: &Option<Job>) -> (&str, &str, &[u8]) {
+/// Whether this request was read; an empty command stands for none.
+fn is_told(found: &Option<Job>, command: &str, dir: &str, value: &str) -> bool {
     match found {
-        Some(Job::Ardea(load)) => ("ardea", load.dir.as_str(), load.schema.bytes()),
-        Some(Job::Ibis { dir, query }) => ("ibis", dir.as_str(), query.bytes()),
-        None => ("", "", b""),
+        Some(Job::Ardea(load)) => {
+            command == "ardea"
+                && load.dir.as_str() == dir
+                && load.schema.bytes() == value.as_bytes()
+        }
+        Some(Job::Ibis { dir: path, query }) => {
+            command == "ibis" && path.as_str() == dir && query.bytes() == value.as_bytes()
+        }
+        None => command == "",
     }
+}
+
+fn expect<R: Abort + AllocGlobal>(
+    rt: &R,
+    words: &[&str],
+    command: &str,
+    dir: &str,
+    value: &str,
+) -> Result<(), AllocError> {
+    let mut owned = Vec::new(rt.alloc());
+    for word in words {
+        owned.push(String::from_str(rt.alloc(), word)?)?;
+    }
+    let found = request(rt.alloc(), &owned)?;
+    assert!(rt; is_told(&found, command, dir, value), "{command} {dir}");
+    Ok(())
 }
 
 #[test]
 fn reads_the_words_of_commands(rt: HostRuntime) -> Result<(), Fail> {
-    for (words, want) in [
-        (
-            ["ardea", "-d", "t", "-m", "a:int"].as_slice(),
-            ("ardea", "t", "a:int"),
-        ),
-        (
-            ["ardea", "-d", "/a/b-c", "-m", ""].as_slice(),
-            ("ardea", "/a/b-c", ""),
-        ),
-        (
-            ["ibis", "-d", "t", "-q", "where a < 3"].as_slice(),
-            ("ibis", "t", "where a < 3"),
-        ),
-        (["ibis", "-d", "t", "-q", ""].as_slice(), ("ibis", "t", "")),
-        (
-            ["ardea", "-d", "a//b", "-m", "a:int"].as_slice(),
-            ("", "", ""),
-        ),
-        (
-            ["ardea", "-d", "..", "-m", "a:int"].as_slice(),
-            ("", "", ""),
-        ),
-        (
-            ["ardea", "-d", "-t", "-m", "a:int"].as_slice(),
-            ("", "", ""),
-        ),
-        (["ardea", "-d", "t", "-m", "-a"].as_slice(), ("", "", "")),
-        (["ibis", "-d", "t", "-q", "-a"].as_slice(), ("", "", "")),
-        (["ardea", "-d", "t", "-m"].as_slice(), ("", "", "")),
-        (
-            ["ardea", "-d", "t", "-m", "a:int", "-v"].as_slice(),
-            ("", "", ""),
-        ),
-        (["ardea", "-m", "t", "-d", "a:int"].as_slice(), ("", "", "")),
-        (
-            ["ardea", "-d", "t", "-q", "where a < 3"].as_slice(),
-            ("", "", ""),
-        ),
-        (["ibis", "-d", "t", "-m", "a:int"].as_slice(), ("", "", "")),
-        (
-            ["ibis", "-q", "where a < 3", "-d", "t"].as_slice(),
-            ("", "", ""),
-        ),
-        (["Ardea", "-d", "t", "-m", "a:int"].as_slice(), ("", "", "")),
-        ([].as_slice(), ("", "", "")),
-    ] {
-        let mut owned = Vec::new(rt.alloc());
-        for word in words {
-            owned.push(String::from_str(rt.alloc(), word)?)?;
-        }
-        let found = request(rt.alloc(), &owned)?;
-        let (command, dir, value) = told(&found);
-        assert_eq!(rt; command, want.0);
-        assert_eq!(rt; dir, want.1);
-        assert_eq!(rt; value, want.2.as_bytes());
-    }
+    let query = "where a < 3";
+    expect(
+        &rt,
+        &["ardea", "-d", "t", "-m", "a:int"],
+        "ardea",
+        "t",
+        "a:int",
+    )?;
+    expect(
+        &rt,
+        &["ardea", "-d", "/a/b-c", "-m", ""],
+        "ardea",
+        "/a/b-c",
+        "",
+    )?;
+    expect(&rt, &["ibis", "-d", "t", "-q", query], "ibis", "t", query)?;
+    expect(&rt, &["ibis", "-d", "t", "-q", ""], "ibis", "t", "")?;
+    Ok(())
+}
+
+fn expect_none<R: Abort + AllocGlobal>(rt: &R, words: &[&str]) -> Result<(), AllocError> {
+    expect(rt, words, "", "", "")
+}
+
+#[test]
+fn values_that_are_none(rt: HostRuntime) -> Result<(), Fail> {
+    expect_none(&rt, &["ardea", "-d", "a//b", "-m", "a:int"])?;
+    expect_none(&rt, &["ardea", "-d", "..", "-m", "a:int"])?;
+    expect_none(&rt, &["ardea", "-d", "-t", "-m", "a:int"])?;
+    expect_none(&rt, &["ardea", "-d", "t", "-m", "-a"])?;
+    expect_none(&rt, &["ibis", "-d", "t", "-q", "-a"])?;
+    Ok(())
+}
+
+#[test]
+fn other_words_are_no_request(rt: HostRuntime) -> Result<(), Fail> {
+    let query = "where a < 3";
+    expect_none(&rt, &["ardea", "-d", "t", "-m"])?;
+    expect_none(&rt, &["ardea", "-d", "t", "-m", "a:int", "-v"])?;
+    expect_none(&rt, &["ardea", "-m", "t", "-d", "a:int"])?;
+    expect_none(&rt, &["ardea", "-d", "t", "-q", query])?;
+    expect_none(&rt, &["ibis", "-d", "t", "-m", "a:int"])?;
+    expect_none(&rt, &["ibis", "-q", query, "-d", "t"])?;
+    expect_none(&rt, &["Ardea", "-d", "t", "-m", "a:int"])?;
+    expect_none(&rt, &[])?;
     Ok(())
 }

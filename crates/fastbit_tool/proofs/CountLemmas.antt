@@ -1,16 +1,16 @@
 -- From how a question ran to the clauses of the call; and from the reply to completeness.
-use Rattle.std.proofs.Common.{◌≡◌, ◌≢◌, ◌⊎◌, inl, inr, ℕ, Bool, true, false, List, [], ◌∷◌, length, Option, Some, None, Result, Ok, Err, refl, sym, ap, subst, ◌∙◌, arith}
+use Rattle.std.proofs.Common.{◌≡◌, ◌≢◌, inl, inr, ℕ, Bool, true, false, List, [], Option, Some, None, Result, Ok, Err, refl, sym, ap, subst, ◌∙◌, arith}
 use Rattle.fb_outside.specs.Causes.{HasCause, Rose}
 use Rattle.fb_outside.specs.Files.{ChangesAmong, Files, SameFiles}
 use Rattle.fb_outside.specs.Names.{IsPath}
-use Rattle.fb_outside.specs.Streams.{Grows, GrowsInPart}
+use Rattle.fb_outside.specs.Streams.{Grows}
 use Rattle.fb_outside.proofs.FileLemmas.{ChangesAmong-same}
 use Rattle.command_words.specs.declared.Job.{Job}
 use Rattle.command_words.specs.declared.Job.TheVariants.{Ibis}
 use Rattle.where_grammar.specs.declared.clause.Clause.{Clause}
 use Rattle.where_grammar.specs.declared.clause.QueryKind.{QueryKind}
 use Rattle.where_grammar.specs.declared.clause.QueryKind.TheVariants.{Syntax, Literal, Unknown}
-use Rattle.world.specs.World.{World, dataset_at}
+use Rattle.world.specs.World.{World}
 use Rattle.world.specs.Stands.{Stands, StandsFor}
 use Rattle.world.specs.Effects.{Effect}
 use Rattle.statuses.specs.declared.Status.{Status}
@@ -26,7 +26,7 @@ use Rattle.fastbit_tool.specs.Counting.{CountRuns, Counts, Declines, Stops}
 use Rattle.fastbit_tool.specs.Causes.{HasCauseIn, status_of}
 use Rattle.fastbit_tool.specs.Effects.{IsOfRequest, LeavesAfter}
 use Rattle.fastbit_tool.proofs.Refusals.{IsRefusal}
-use Rattle.fastbit_tool.proofs.PrintLemmas.{Replies-prints, Replies-quiet, not_read, not_store}
+use Rattle.fastbit_tool.proofs.PrintLemmas.{Replies-prints, Replies-quiet, not_read}
 use Rattle.fastbit_tool.proofs.RunLemmas.{not_unread, stops}
 
 -- ---- what a question is refused with is a refusal

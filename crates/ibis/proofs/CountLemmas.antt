@@ -14,7 +14,6 @@ use Rattle.column_file.specs.Values.{numbers_of}
 use Rattle.part_meta.specs.FileNames.{values_name}
 use Rattle.world.specs.Stands.{IsLoaded}
 use Rattle.where_grammar.specs.declared.clause.Clause.{Clause}
-use Rattle.where_grammar.specs.declared.clause.QueryKind.{QueryKind}
 use Rattle.where_grammar.specs.declared.clause.QueryKind.TheVariants.{Unknown}
 use Rattle.where_grammar.specs.declared.clause.Atom.{Atom}
 use Rattle.where_grammar.specs.declared.clause.Atom.TheVariants.{Compare}

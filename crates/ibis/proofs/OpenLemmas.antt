@@ -1,5 +1,5 @@
 -- The catalogs that a load writes, by their test; and what a path's file that is none of them gives.
-use Rattle.std.proofs.Common.{◌≡◌, ◌≢◌, ◌⊎◌, ◌<◌, ◌≤◌, ◌&&◌, ◌==◌, ℕ, suc, zero, Bool, true, false, List, [], ◌∷◌, length, map, option_map, Option, Some, None, IfSome, refl, sym, ap, subst, inl, inr, ◌∙◌, arith}
+use Rattle.std.proofs.Common.{◌≡◌, ◌≢◌, ◌⊎◌, ◌<◌, ◌≤◌, ◌&&◌, ◌==◌, ℕ, Bool, true, false, List, [], ◌∷◌, length, Option, Some, None, IfSome, refl, sym, ap, subst, inl, inr, ◌∙◌, arith}
 use Rattle.std.specs.List.{All, AllPairs}
 use Rattle.std.proofs.lemmas.List.Elements.{All-head, All-nil, All-cons}
 use Rattle.std.proofs.lemmas.List.Kept.{AllPairs-cons}
@@ -18,7 +18,7 @@ use Rattle.world.specs.Stands.{IsLoaded}
 use Rattle.statuses.specs.declared.DamageKind.TheVariants as damage
 use Rattle.statuses.specs.declared.Status.TheVariants.{Damaged}
 use Rattle.statuses.specs.declared.stop.Stop.TheVariants.{Refused}
-use Rattle.ibis.specs.Found.{Opened, Unopened, NoText}
+use Rattle.ibis.specs.Found.{Opened, NoText}
 use Rattle.ibis.specs.Steps.{StopsOpening, at_most_part_0, is_int, is_loaded, is_one_int}
 
 -- ---- the test

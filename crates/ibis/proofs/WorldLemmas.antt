@@ -1,5 +1,5 @@
 -- What a question comes to where the files stand for a world is what the world answers.
-use Rattle.std.proofs.Common.{◌≡◌, ◌≢◌, ◌⊎◌, ◌+◌, ◌*◌, ◌/◌, ◌≤◌, ◌≤ℤ◌, ◌&&◌, ◌==◌, ◌%◌, nat_le, ℕ, suc, ℤ, Bool, true, false, if◌then◌else◌, List, [], ◌∷◌, ◌++◌, length, map, Option, Some, None, Result, Ok, Err, inl, inr, refl, sym, ap, subst, ◌∙◌, arith, rules}
+use Rattle.std.proofs.Common.{◌≡◌, ◌⊎◌, ◌*◌, ◌/◌, ◌≤◌, ◌%◌, ℕ, suc, ℤ, Bool, true, false, List, [], ◌∷◌, length, map, Option, Some, None, Result, Ok, Err, inl, inr, refl, sym, ap, subst, ◌∙◌, arith, rules}
 use Rattle.std.specs.List.{All, filter, flat_map}
 use Rattle.std.specs.Prelude.{slice_index_or}
 use Rattle.std.proofs.lemmas.Bool.{eq-eqb, le-leb}
@@ -17,18 +17,17 @@ use Rattle.where_grammar.specs.declared.clause.QueryKind.{QueryKind}
 use Rattle.where_grammar.specs.Holds.{holds}
 use Rattle.column_file.specs.Values.{ValueFits, numbers_of, values_bytes}
 use Rattle.column_file.proofs.ValuesLemmas.{length-values_bytes, values_again}
-use Rattle.part_meta.specs.declared.catalog.Catalog.{Catalog}
 use Rattle.part_meta.specs.CatalogText.{catalog_text}
 use Rattle.part_meta.specs.FileNames.{catalog_name, values_name}
 use Rattle.part_meta.proofs.CatalogLemmas.{catalog_text-injective}
-use Rattle.world.specs.World.{Dataset, Partition, World, IsDataset, IsNumber, IsNoPart, IsOneInt, IsOnePart, dataset_at, records_of}
+use Rattle.world.specs.World.{Dataset, Partition, World, IsDataset, IsNumber, IsNoPart, IsOnePart, dataset_at}
 use Rattle.world.specs.Stands.{IsLoaded, PartRests, Rests, Stands, catalog_data, column_numbers, stored_number}
 use Rattle.statuses.specs.declared.Status.{Status}
 use Rattle.statuses.specs.declared.Status.TheVariants.{BadQuery, NoDataset}
 use Rattle.statuses.specs.Outcome.{◌>>=◌}
 use Rattle.ibis.specs.Query.{read_query, resolved}
 use Rattle.ibis.specs.Count.{count_result, hits}
-use Rattle.ibis.specs.Found.{Asks, Comes, Counted, Finds, NoCatalog, NoText, NotOpened, Opened, Unopened, count_in, hits_in, is_values_length, passing, passing_in}
+use Rattle.ibis.specs.Found.{Asks, Comes, Counted, Finds, NoCatalog, NoText, NotOpened, count_in, hits_in, is_values_length, passing, passing_in}
 use Rattle.ibis.proofs.OpenLemmas.{valid_loaded}
 
 abbrev one : List ℕ → List Column

@@ -1,5 +1,5 @@
 -- The clause of a query, and the names in it.
-use Rattle.std.specs.Prelude.{ℕ, Bool, false, true, List, [], ◌∷◌, ◌++◌, Option, Some, None, Result, Ok, Err}
+use Rattle.std.specs.Prelude.{ℕ, List, [], ◌∷◌, Option, Some, None, Result, Ok, Err}
 use Rattle.std.specs.List.{find, flat_map}
 use Rattle.std.specs.Option.{is_none}
 use Rattle.fb_types.specs.declared.schemas.Column.{Column}

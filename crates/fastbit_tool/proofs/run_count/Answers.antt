@@ -1,5 +1,4 @@
 use Rattle.fastbit_tool.specs.Counting.{Counts, Declines}
-use Rattle.fastbit_tool.proofs.CountLemmas.{IsRefusal-count}
 use Rattle.fastbit_tool.proofs.run_count.Goals as goal
 
 pub returns-in-Ok-clause-runs : goal.returns-in-Ok-clause-runs

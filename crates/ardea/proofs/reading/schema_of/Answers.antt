@@ -1,5 +1,4 @@
-use Rattle.std.proofs.Common.{◌≡◌, ◌∙◌, sym, ap, List, Option, Some, None, ℕ}
-use Rattle.fb_types.specs.declared.schemas.Column.{Column}
+use Rattle.std.proofs.Common.{◌∙◌, sym, ap}
 use Rattle.ardea.specs.Load.{not_loadable}
 use Rattle.ardea.proofs.LoadLemmas.{loads_schema, one_int, refused_column, refused_schema}
 use Rattle.ardea.proofs.reading.schema_of.Goals as goal

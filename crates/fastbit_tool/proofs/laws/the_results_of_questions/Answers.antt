@@ -1,6 +1,5 @@
-use Rattle.std.proofs.Common.{◌≡◌, List, [], ◌∷◌, codes, pos, refl}
+use Rattle.std.proofs.Common.{List, [], ◌∷◌, codes, pos, refl}
 use Rattle.fb_types.specs.Names.{keywords}
-use Rattle.fb_types.specs.declared.cells.Cell.{Cell}
 use Rattle.fb_types.specs.declared.cells.Cell.TheVariants.{Whole}
 use Rattle.fb_types.specs.declared.schemas.Column.{Column}
 use Rattle.fb_types.specs.declared.types.ColType.TheVariants.{Int}

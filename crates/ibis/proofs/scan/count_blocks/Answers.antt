@@ -1,4 +1,4 @@
-use Rattle.std.proofs.Common.{◌≡◌, ◌≤◌, ◌∙◌, ◌-◌, ◌%◌, ℕ, length, refl, arith}
+use Rattle.std.proofs.Common.{◌∙◌, ◌-◌, ◌%◌, ℕ, refl, arith}
 use Rattle.std.proofs.lemmas.List.{length-replicate, length-take}
 use Rattle.ibis.specs.Steps.{meets}
 use Rattle.ibis.proofs.ScanLemmas.{told_last, told_next, told_start}

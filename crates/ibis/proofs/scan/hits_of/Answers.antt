@@ -1,4 +1,4 @@
-use Rattle.std.proofs.Common.{◌≡◌, ◌∙◌, sym, ap}
+use Rattle.std.proofs.Common.{◌∙◌, sym, ap}
 use Rattle.std.specs.Option.{is_none}
 use Rattle.fb_types.specs.Schemas.{place_of}
 use Rattle.ibis.proofs.CountLemmas.{empty, first_left, none_left, none_tested, scanned, unknown}

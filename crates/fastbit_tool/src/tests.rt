@@ -239,6 +239,20 @@ fn refuses_and_writes_nothing(rt: HostRuntime) -> Result<(), Fail> {
     Ok(())
 }
 
+/// Puts a file.
+fn keep<R: Abort + AllocGlobal>(
+    rt: &R,
+    store: &mut MemStore,
+    name: &str,
+    bytes: &[u8],
+) -> Result<(), AllocError> {
+    match FileName::from_str(rt.alloc(), name)? {
+        Some(name) => assert_eq!(rt; store.put(name.as_str(), bytes), Ok(())),
+        None => rt.panic("no file's name"),
+    }
+    Ok(())
+}
+
 /// Asks a dataset in a store for a count.
 fn expect_asked<R: Abort + AllocGlobal>(
     rt: &R,
@@ -304,7 +318,7 @@ fn names_each_damaged_file(rt: HostRuntime) -> Result<(), Fail> {
     let length = "error 8 damaged t/p0000/a Length\n";
     let catalog = "t/-catalog.txt";
     let mut store = MemStore::make(rt.alloc(), &[], 0)?;
-    assert_eq!(rt; store.put(catalog, CATALOG), Ok(()));
+    keep(&rt, &mut store, catalog, CATALOG)?;
     expect_asked(
         &rt,
         &mut store,
@@ -337,7 +351,7 @@ fn names_each_damaged_file(rt: HostRuntime) -> Result<(), Fail> {
             text,
         ),
     ] {
-        assert_eq!(rt; store.put(file, bytes), Ok(()));
+        keep(&rt, &mut store, file, bytes)?;
         expect_asked(&rt, &mut store, "t", "where a < 3", code, printed)?;
     }
     Ok(())
@@ -350,12 +364,12 @@ fn counts_over_many_blocks(rt: HostRuntime) -> Result<(), Fail> {
     for _ in 0..250_000 {
         bytes.extend_from_slice(b"\x01\x00\x00\x00\x02\x00\x00\x00")?;
     }
-    assert_eq!(rt; store.put("t/-catalog.txt", CATALOG), Ok(()));
-    assert_eq!(rt; store.put("t/p0000/a", &bytes), Ok(()));
+    keep(&rt, &mut store, "t/-catalog.txt", CATALOG)?;
+    keep(&rt, &mut store, "t/p0000/a", &bytes)?;
     expect_asked(&rt, &mut store, "t", "where a < 2", 0, "hits 250000\n")?;
     expect_asked(&rt, &mut store, "t", "where a < 3", 0, "hits 500000\n")?;
     bytes.extend_from_slice(b"\x01\x00\x00\x00")?;
-    assert_eq!(rt; store.put("t/p0000/a", &bytes), Ok(()));
+    keep(&rt, &mut store, "t/p0000/a", &bytes)?;
     expect_asked(
         &rt,
         &mut store,
@@ -381,8 +395,8 @@ fn a_question_to_a_failing_store_is_not_answered(rt: HostRuntime) -> Result<(), 
             keep_new: false,
         };
         let mut store = MemStore::make(rt.alloc(), &[fail], 0)?;
-        assert_eq!(rt; store.put("t/-catalog.txt", CATALOG), Ok(()));
-        assert_eq!(rt; store.put("t/p0000/a", b"\x01\x00\x00\x00"), Ok(()));
+        keep(&rt, &mut store, "t/-catalog.txt", CATALOG)?;
+        keep(&rt, &mut store, "t/p0000/a", b"\x01\x00\x00\x00")?;
         expect_asked(&rt, &mut store, "t", "where a < 3", code, printed)?;
     }
     Ok(())

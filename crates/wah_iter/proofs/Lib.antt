@@ -4,3 +4,4 @@ pub mod AppendLaws
 pub mod RowLaws
 pub mod WalkLaws
 pub mod RunLaws
+pub mod ApartLaws

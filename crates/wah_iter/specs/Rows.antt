@@ -1,5 +1,6 @@
 -- The rows of a vector, the places of its true values in rising order, and their maximal runs.
-use Rattle.std.specs.Prelude.{ℕ, ◌+◌, Bool, true, false, List, [], ◌∷◌, ◌==◌, if◌then◌else◌}
+use Rattle.std.specs.Prelude.{ℕ, ◌+◌, ◌-◌, ◌<◌, ⊤, Bool, true, false, List, [], ◌∷◌, ◌==◌, if◌then◌else◌}
+use Rattle.std.specs.List.{flat_map, range_with_len}
 
 -- the same where the first value is at this place
 unfoldable pub rows_from : ℕ → List Bool → List ℕ
@@ -25,3 +26,13 @@ runs_from place (false ∷ v) rs = runs_from (place + 1) v rs
 
 abbrev pub runs_of : List Bool → List (ℕ × ℕ)
 runs_of v = runs_from 0 v []
+
+-- the rows of runs, one run after another
+abbrev pub rows_in : List (ℕ × ℕ) → List ℕ
+rows_in rs = flat_map (λ r. range_with_len r.0 (r.1 - r.0)) rs
+
+-- runs of one row at least, with a row between each and the next, so that none can be longer
+unfoldable pub AreApart : List (ℕ × ℕ) → Type 0
+AreApart [] = ⊤
+AreApart (r ∷ []) = r.0 < r.1
+AreApart (r ∷ s ∷ rs) = (r.0 < r.1) × (r.1 < s.0) × AreApart (s ∷ rs)

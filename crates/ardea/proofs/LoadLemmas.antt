@@ -6,13 +6,12 @@ use Rattle.std.proofs.lemmas.List.Elements.{All-head}
 use Rattle.fb_outside.specs.Streams.{Takes, IsAtEnd}
 use Rattle.fb_types.specs.declared.cells.Cell.{Cell}
 use Rattle.fb_types.specs.declared.schemas.Column.{Column}
-use Rattle.fb_types.specs.declared.types.ColType.{ColType}
-use Rattle.fb_types.specs.declared.types.ColType.TheVariants.{Byte, UByte, Short, UShort, Int, UInt, Long, ULong, Category, Text}
 use Rattle.fb_types.specs.declared.schema_text.SchemaKind.TheVariants.{BadType}
 use Rattle.fb_types.specs.Names.{IsColumnName}
 use Rattle.fb_types.specs.Schemas.{IsSchema}
 use Rattle.fb_types.specs.SchemaText.{SchemaFault, read_schema}
-use Rattle.world.specs.World.{IsOneInt}
+use Rattle.world.specs.World.{IsOneInt, is_int}
+use Rattle.world.proofs.OneIntLemmas.{one_int_column}
 use Rattle.csv_load.specs.Input.{TakesSome}
 use Rattle.csv_load.specs.Loaded.{loaded}
 use Rattle.command_words.specs.declared.Load.{Load}
@@ -20,7 +19,7 @@ use Rattle.statuses.specs.declared.LimitKind.TheVariants.{Input}
 use Rattle.statuses.specs.declared.Status.{Status}
 use Rattle.statuses.specs.declared.Status.TheVariants.{BadSchema, SchemaDiffers, Limit}
 use Rattle.ardea.specs.declared.TheConstants.{MAX_INPUT_BYTES}
-use Rattle.ardea.specs.Load.{is_int, load_result, load_schema, not_loadable, records_or_refusal}
+use Rattle.ardea.specs.Load.{load_result, load_schema, not_loadable, records_or_refusal}
 use Rattle.statuses.specs.declared.stop.Stop.{Stop}
 use Rattle.statuses.specs.declared.stop.Stop.TheVariants.{Refused, ReadFault, StoreFault, OutOfMemory}
 use Rattle.ardea.specs.Reading.{IsRefused, StopsAtRecords, StopsAtSchema, StopsReading}
@@ -131,21 +130,9 @@ too_long_of load schema old new limit block e h =
     rw h.0 (too_long load schema old new h.1.came e h.1.taken h.1.count.0)
 
 -- a schema that can be loaded is one `int` column
-int_by : (ty : ColType) → is_int ty ≡ true → ty ≡ Int
-int_by Int e = refl
-int_by Byte e = cc e
-int_by UByte e = cc e
-int_by Short e = cc e
-int_by UShort e = cc e
-int_by UInt e = cc e
-int_by Long e = cc e
-int_by ULong e = cc e
-int_by Category e = cc e
-int_by Text e = cc e
-
-first_by : (column : Column) (b : Bool) → is_int column.ty ≡ b → if◌then◌else◌ {A = Option ℕ} b None (Some 1) ≡ None → column.ty ≡ Int
-first_by column true is e = int_by column.ty is
-first_by column false is e = absurd (cc)
+first_by : (b : Bool) → if◌then◌else◌ {A = Option ℕ} b None (Some 1) ≡ None → b ≡ true
+first_by true e = refl
+first_by false e = absurd (cc)
 
 more_by : (b : Bool) → if◌then◌else◌ {A = Option ℕ} b (Some 2) (Some 1) ≡ None → ⊥
 more_by true e = absurd (cc)
@@ -154,9 +141,5 @@ more_by false e = absurd (cc)
 pub one_int : (schema : List Column) → IsSchema schema → not_loadable schema ≡ None → IsOneInt schema
 one_int [] valid e = absurd (omega (arith, valid.some))
 one_int (column ∷ []) valid e =
-    record {
-      name = column.name;
-      named = All-head (λ (c : Column). IsColumnName c.name) column [] valid.named;
-      is = ap (λ ty. record { name = column.name; ty = ty } ∷ []) (first_by column (is_int column.ty) refl e);
-    }
+    one_int_column column (All-head (λ (c : Column). IsColumnName c.name) column [] valid.named) (first_by (is_int column.ty) e)
 one_int (column ∷ another ∷ columns) valid e = absurd (more_by (is_int column.ty) e)

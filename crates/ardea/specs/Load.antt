@@ -1,18 +1,16 @@
 -- What a load answers: the refusal whose cause comes first in the order below, or the table that is loaded.
-use Rattle.std.specs.Prelude.{◌≡◌, ℕ, ◌+◌, Bool, true, false, List, [], ◌∷◌, ◌++◌, length, decimal, nat_le, Option, Some, None, IfSome, is_some, Result, Ok, Err, if◌then◌else◌}
+use Rattle.std.specs.Prelude.{◌≡◌, ℕ, ◌+◌, Bool, List, [], ◌∷◌, ◌++◌, length, decimal, nat_le, Option, Some, None, IfSome, is_some, Result, Ok, Err, if◌then◌else◌}
 use lib.Chars.{codes}
 use Rattle.fb_outside.specs.Files.{Files, file_at}
 use Rattle.fb_types.specs.declared.cells.Cell.{Cell}
 use Rattle.fb_types.specs.declared.schemas.Column.{Column}
 use Rattle.fb_types.specs.declared.schema_text.SchemaKind.TheVariants.{BadType}
-use Rattle.fb_types.specs.declared.types.ColType.{ColType}
-use Rattle.fb_types.specs.declared.types.ColType.TheVariants.{Int}
 use Rattle.fb_types.specs.SchemaText.{SchemaFault, read_schema}
 use Rattle.fb_types.specs.Table.{Table}
 use Rattle.csv_load.specs.Loaded.{Fault, loaded}
 use Rattle.command_words.specs.declared.Load.{Load}
 use Rattle.part_meta.specs.FileNames.{catalog_name}
-use Rattle.world.specs.World.{World, dataset_at}
+use Rattle.world.specs.World.{World, dataset_at, is_int}
 use Rattle.world.specs.Effects.{Loads}
 use Rattle.statuses.specs.declared.LimitKind.TheVariants.{Input}
 use Rattle.statuses.specs.declared.Status.{Status}
@@ -23,10 +21,6 @@ use Rattle.ardea.specs.declared.TheConstants.{MAX_INPUT_BYTES}
 abbrev pub schema_or_refusal : Result (List Column) SchemaFault → Result (List Column) Status
 schema_or_refusal (Ok schema) = Ok schema
 schema_or_refusal (Err fault) = Err (BadSchema fault.column fault.kind)
-
-abbrev pub is_int : ColType → Bool
-is_int Int = true
-is_int _ = false
 
 -- Until more types load, a load takes one `int` column: the number, from 1, of the first column that it doesn't take.
 abbrev pub not_loadable : List Column → Option ℕ

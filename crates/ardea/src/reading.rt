@@ -4,8 +4,8 @@ ghost use Rattle.std.specs.Prelude.{◌≡◌, ◌≤◌, ◌+◌, ◌*◌, All,
 ghost use Rattle.fb_outside.specs.Causes.{HasCause};
 ghost use Rattle.fb_outside.specs.Streams.{IsAtEnd, Takes};
 ghost use Rattle.fb_types.specs.SchemaText.{IsFaultOf, read_schema};
-ghost use Rattle.world.specs.World.{IsNumber, IsOneInt};
-ghost use Rattle.ardea.specs.Load.{is_int, load_schema, not_loadable};
+ghost use Rattle.world.specs.World.{IsNumber, IsOneInt, is_int};
+ghost use Rattle.ardea.specs.Load.{load_schema, not_loadable};
 ghost use Rattle.csv_load.specs.Answers.{IsRecordFault};
 ghost use Rattle.csv_load.specs.Input.{Explains};
 ghost use Rattle.csv_load.specs.Loaded.{loaded};

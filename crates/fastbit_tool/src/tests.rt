@@ -153,33 +153,28 @@ fn loads_once(rt: HostRuntime) -> Result<(), Fail> {
 }
 
 #[test]
-fn refuses_and_writes_nothing(rt: HostRuntime) -> Result<(), Fail> {
+fn refuses_records(rt: HostRuntime) -> Result<(), Fail> {
+    let mut store = MemStore::make(rt.alloc(), &[], 0)?;
+    for (input, code, printed) in [
+        ("1\n\"\"\n", 3, "error 3 record 2 field 1 NotWhole\n"),
+        ("1\n1,2\n", 3, "error 3 record 2 field 2 FieldCount\n"),
+        ("1\nx\n1,2\n", 3, "error 3 record 2 field 1 NotWhole\n"),
+        ("2147483648\n", 3, "error 3 record 1 field 1 OutOfRange\n"),
+    ] {
+        expect(
+            &rt,
+            &mut store,
+            &make_case(LOAD_U, input.as_bytes(), code, printed),
+        )?;
+    }
+    assert!(rt; store.name(0).is_none(), "a refused load writes nothing");
+    Ok(())
+}
+
+#[test]
+fn refuses_words_and_schemas(rt: HostRuntime) -> Result<(), Fail> {
     let mut store = MemStore::make(rt.alloc(), &[], 0)?;
     for (words, input, code, printed) in [
-        (
-            LOAD_U,
-            "1\n\"\"\n",
-            3,
-            "error 3 record 2 field 1 NotWhole\n",
-        ),
-        (
-            LOAD_U,
-            "1\n1,2\n",
-            3,
-            "error 3 record 2 field 2 FieldCount\n",
-        ),
-        (
-            LOAD_U,
-            "1\nx\n1,2\n",
-            3,
-            "error 3 record 2 field 1 NotWhole\n",
-        ),
-        (
-            LOAD_U,
-            "2147483648\n",
-            3,
-            "error 3 record 1 field 1 OutOfRange\n",
-        ),
         (
             ["ardea", "-d", "u", "-m", "a:byte"],
             "",

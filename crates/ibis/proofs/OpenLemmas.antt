@@ -6,34 +6,22 @@ use Rattle.std.proofs.lemmas.List.Kept.{AllPairs-cons}
 use Rattle.std.proofs.lemmas.Bool.{eqb-true}
 use Rattle.fb_outside.specs.Files.{Files, file_at}
 use Rattle.fb_types.specs.declared.schemas.Column.{Column}
-use Rattle.fb_types.specs.declared.types.ColType.{ColType}
-use Rattle.fb_types.specs.declared.types.ColType.TheVariants.{Byte, UByte, Short, UShort, Int, UInt, Long, ULong, Category, Text}
+use Rattle.fb_types.specs.declared.types.ColType.TheVariants.{Int}
 use Rattle.fb_types.specs.Names.{IsColumnName}
 use Rattle.fb_types.specs.Schemas.{IsSchema}
 use Rattle.part_meta.specs.declared.catalog.Catalog.{Catalog}
 use Rattle.part_meta.specs.CatalogText.{IsCatalog, catalog_text}
 use Rattle.part_meta.specs.FileNames.{catalog_name}
 use Rattle.world.specs.World.{IsOneInt}
+use Rattle.world.proofs.OneIntLemmas.{one_int_column}
 use Rattle.world.specs.Stands.{IsLoaded}
 use Rattle.statuses.specs.declared.DamageKind.TheVariants as damage
 use Rattle.statuses.specs.declared.Status.TheVariants.{Damaged}
 use Rattle.statuses.specs.declared.stop.Stop.TheVariants.{Refused}
 use Rattle.ibis.specs.Found.{Opened, NoText}
-use Rattle.ibis.specs.Steps.{StopsOpening, at_most_part_0, is_int, is_loaded, is_one_int}
+use Rattle.ibis.specs.Steps.{StopsOpening, at_most_part_0, is_loaded, is_one_int}
 
 -- ---- the test
-
-int_by : (ty : ColType) → is_int ty ≡ true → ty ≡ Int
-int_by Int e = refl
-int_by Byte e = cc e
-int_by UByte e = cc e
-int_by Short e = cc e
-int_by UShort e = cc e
-int_by UInt e = cc e
-int_by Long e = cc e
-int_by ULong e = cc e
-int_by Category e = cc e
-int_by Text e = cc e
 
 both : (a b : Bool) → (a && b) ≡ true → (a ≡ true) × (b ≡ true)
 both true b h = (refl, h)
@@ -42,11 +30,7 @@ both false b h = absurd (cc)
 schema_by : (schema : List Column) → IsSchema schema → is_one_int schema ≡ true → IsOneInt schema
 schema_by [] valid e = absurd (cc)
 schema_by (column ∷ []) valid e =
-    record {
-      name = column.name;
-      named = All-head (λ (c : Column). IsColumnName c.name) column [] valid.named;
-      is = ap (λ ty. record { name = column.name; ty = ty } ∷ []) (int_by column.ty e);
-    }
+    one_int_column column (All-head (λ (c : Column). IsColumnName c.name) column [] valid.named) e
 schema_by (column ∷ another ∷ columns) valid e = absurd (cc)
 
 parts_by : (next : ℕ) (parts : List ℕ) → at_most_part_0 next parts ≡ true → ((next ≡ 0) × (parts ≡ [])) ⊎ ((next ≡ 1) × (parts ≡ 0 ∷ []))

@@ -2,14 +2,13 @@
 use Rattle.std.specs.Prelude.{◌≡◌, ⊤, ℕ, ℤ, Bool, true, false, ◌==◌, ◌&&◌, List, [], ◌∷◌, Option, IfSome, Result, Err}
 use Rattle.fb_outside.specs.Files.{Files, file_at}
 use Rattle.fb_types.specs.declared.schemas.Column.{Column}
-use Rattle.fb_types.specs.declared.types.ColType.{ColType}
-use Rattle.fb_types.specs.declared.types.ColType.TheVariants.{Int}
 use Rattle.where_grammar.specs.declared.clause.Atom.TheVariants.{Compare}
 use Rattle.where_grammar.specs.declared.clause.Clause.{Clause}
 use Rattle.where_grammar.specs.declared.clause.Clause.TheVariants.{One}
 use Rattle.where_grammar.specs.declared.clause.QueryKind.{QueryKind}
 use Rattle.where_grammar.specs.Holds.{compares}
 use Rattle.part_meta.specs.declared.catalog.Catalog.{Catalog}
+use Rattle.world.specs.World.{is_int}
 use Rattle.statuses.specs.declared.Status.TheVariants.{BadQuery}
 use Rattle.statuses.specs.declared.stop.Stop.{Stop}
 use Rattle.statuses.specs.declared.stop.Stop.TheVariants.{Refused, ReadFault, StoreFault, OutOfMemory}
@@ -31,10 +30,6 @@ StopsAtText text StoreFault = ⊥
 StopsAtText text OutOfMemory = ⊤
 
 -- `IsLoaded` as a test
-abbrev pub is_int : ColType → Bool
-is_int Int = true
-is_int _ = false
-
 abbrev pub is_one_int : List Column → Bool
 is_one_int (column ∷ []) = is_int column.ty
 is_one_int _ = false

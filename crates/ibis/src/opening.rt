@@ -5,8 +5,9 @@ ghost use Rattle.fb_outside.specs.Causes.{HasCause};
 ghost use Rattle.fb_outside.specs.Files.{SameFiles};
 ghost use Rattle.fb_outside.specs.Names.{IsPath};
 ghost use Rattle.world.specs.Stands.{IsLoaded};
+ghost use Rattle.world.specs.World.{is_int};
 ghost use Rattle.ibis.specs.Found.{Opened};
-ghost use Rattle.ibis.specs.Steps.{StopsOpening, at_most_part_0, is_int, is_loaded};
+ghost use Rattle.ibis.specs.Steps.{StopsOpening, at_most_part_0, is_loaded};
 
 use fb_outside::{FileName, Store, Trouble, file_bytes};
 use fb_types::{ColType, Column};

@@ -1,2 +1,3 @@
 pub mod MapLemmas
 pub mod StandLemmas
+pub mod OneIntLemmas

@@ -1,5 +1,5 @@
 -- Datasets of records, and the world of the datasets under their paths.
-use Rattle.std.specs.Prelude.{◌≡◌, ◌⊎◌, ℕ, ℤ, ◌≤◌, List, [], ◌∷◌, length, Option}
+use Rattle.std.specs.Prelude.{◌≡◌, ◌⊎◌, ℕ, ℤ, ◌≤◌, Bool, true, false, List, [], ◌∷◌, length, Option}
 use Rattle.std.specs.List.{All, flat_map}
 use Rattle.std.specs.Ordering.{nat_cmp}
 use Rattle.std.specs.Cmp.Lexicographic.{slice_cmp}
@@ -7,6 +7,7 @@ use Rattle.std.specs.FinMap.{FinMap, empty, get, insert}
 use Rattle.fb_types.specs.declared.cells.Cell.{Cell}
 use Rattle.fb_types.specs.declared.cells.Cell.TheVariants.{Whole}
 use Rattle.fb_types.specs.declared.schemas.Column.{Column}
+use Rattle.fb_types.specs.declared.types.ColType.{ColType}
 use Rattle.fb_types.specs.declared.types.ColType.TheVariants.{Int}
 use Rattle.fb_types.specs.Cells.{RecordFits}
 use Rattle.fb_types.specs.Names.{IsColumnName}
@@ -45,6 +46,10 @@ pub record IsPartition (schema : List Column) (part : Partition) : Type 0 where
   pub some : 1 ≤ length part.records
   pub few : length part.records ≤ 4194304
   pub fit : All (λ cells. RecordFits cells schema) part.records
+
+abbrev pub is_int : ColType → Bool
+is_int Int = true
+is_int _ = false
 
 -- Until more types load, the schema is one `int` column.
 pub record IsOneInt (schema : List Column) : Type 0 where

@@ -42,7 +42,32 @@ fn or_both<L: Ledger>(
     Ok(combine::<Or, L>(a, b, out, steps))
 }
 
-/// The same of two vectors at least, half by half: the calls stand in each other at most as often as the list can be
+/// The same of two or three vectors.
+fn or_few<T: HasRows, L: Ledger>(
+    alloc: Global,
+    list: &[T],
+    len: u32,
+    steps: &mut Steps<L>,
+) -> Result<Wah, AllocError>
+    requires some { 2 ≤ length list.now }
+    requires few { length list.now ≤ 3 }
+    requires same { All (λ v. length v ≡ len) (map T.row_bits list.now) }
+    ensures values { IfOk result (λ v. v ≡ union len (map T.row_bits list.now)) }
+    ensures words { IfOk result (λ v. words_of v ≤ words_in (map T.row_bits list.now)) }
+    ensures digits { (d : ℕ) → length list.now ≤ 2 ^ d → steps.new ≤ steps.old + d * words_in (map T.row_bits list.now) }
+    ensures steps { steps.new + 2 * groups_and_rest len ≤ steps.old + 2 * groups_and_rest len * length list.now }
+{
+    match list {
+        [a, b] => or_both(alloc, a.rows(), b.rows(), steps),
+        [a, b, c] => {
+            let right = or_both(alloc, b.rows(), c.rows(), steps)?;
+            or_both(alloc, a.rows(), &right, steps)
+        }
+        _ => unreachable!(),
+    }
+}
+
+/// The same of two vectors at least, half by half. The calls stand in each other only as often as the list can be
 /// halved.
 fn or_halves<T: HasRows, L: Ledger>(
     alloc: Global,
@@ -55,21 +80,15 @@ fn or_halves<T: HasRows, L: Ledger>(
     ensures values { IfOk result (λ v. v ≡ union len (map T.row_bits list.now)) }
     ensures words { IfOk result (λ v. words_of v ≤ words_in (map T.row_bits list.now)) }
     ensures digits { (d : ℕ) → length list.now ≤ 2 ^ d → steps.new ≤ steps.old + d * words_in (map T.row_bits list.now) }
-    ensures steps { steps.new ≤ steps.old + 2 * groups_and_rest len * length list.now }
+    ensures steps { steps.new + 2 * groups_and_rest len ≤ steps.old + 2 * groups_and_rest len * length list.now }
 {
-    match list {
-        [a, b] => or_both(alloc, a.rows(), b.rows(), steps),
-        [a, b, c] => {
-            let right = or_both(alloc, b.rows(), c.rows(), steps)?;
-            or_both(alloc, a.rows(), &right, steps)
-        }
-        _ => {
-            let (front, back) = list.split_at(list.len() / 2);
-            let left = or_halves(alloc, front, len, steps)?;
-            let right = or_halves(alloc, back, len, steps)?;
-            or_both(alloc, &left, &right, steps)
-        }
+    if list.len() < 4 {
+        return or_few(alloc, list, len, steps);
     }
+    let (front, back) = list.split_at(list.len() / 2);
+    let left = or_halves(alloc, front, len, steps)?;
+    let right = or_halves(alloc, back, len, steps)?;
+    or_both(alloc, &left, &right, steps)
 }
 
 /// True where one of the vectors is, each of which has this length. An empty list gives values that are all false.

@@ -1,3 +1,4 @@
+pub mod PackLaws
 pub mod PlacesLaws
 pub mod CountLaws
 pub mod AppendLaws

@@ -1,4 +1,4 @@
-ghost use Rattle.std.specs.Prelude.{◌≡◌, ◌<◌};
+ghost use Rattle.std.specs.Prelude.{◌≡◌, ◌<◌, ◌≤◌};
 
 use super::*;
 use std::alloc::{AllocError, Global};
@@ -143,6 +143,38 @@ fn rows_make_a_vector_and_a_vector_rows(rt: HostRuntime) -> Result<(), Fail> {
     assert_eq!(rt; look.runs.as_slice(), [(0, 1), (2, 3)].as_slice());
     assert_eq!(rt; value_at::<Brand>(Blank::new(1), &few, 1), Some(false));
     assert_eq!(rt; value_at::<Brand>(Blank::new(1), &few, 2), Some(true));
+    Ok(())
+}
+
+/// The rows from the first up to but not with the last, in a vector of 100.
+fn rows_between(alloc: Global, first: u32, past: u32) -> Result<Wah, AllocError>
+    requires order { first ≤ past }
+    requires within { past ≤ 100 }
+{
+    let rows: Vec<u32> = (first..past).collect(alloc)?;
+    from_rows(alloc, &rows, 100)
+}
+
+/// Three words 40000000, 40000000 and 80000001 with the active word 40; a fill and the active word; a literal, a fill
+/// and a rest.
+#[test]
+fn rows_are_kept_as_words(rt: HostRuntime) -> Result<(), Fail> {
+    let starts = from_rows(rt.alloc(), &[0, 31, 93], 100)?;
+    let bytes = bytes_of::<Brand>(Blank::new(1), rt.alloc(), &starts)?;
+    let want = [
+        100, 0, 0, 0, 3, 0, 0, 0, 0, 0, 0, 0x40, 0, 0, 0, 0x40, 1, 0, 0, 0x80, 0x40, 0, 0, 0,
+    ];
+    assert_eq!(rt; bytes.as_slice(), want.as_slice());
+    let whole = rows_between(rt.alloc(), 0, 93)?;
+    let bytes = bytes_of::<Brand>(Blank::new(1), rt.alloc(), &whole)?;
+    let want = [100, 0, 0, 0, 1, 0, 0, 0, 3, 0, 0, 0xC0, 0, 0, 0, 0];
+    assert_eq!(rt; bytes.as_slice(), want.as_slice());
+    let most = rows_between(rt.alloc(), 1, 94)?;
+    let bytes = bytes_of::<Brand>(Blank::new(1), rt.alloc(), &most)?;
+    let want = [
+        100, 0, 0, 0, 2, 0, 0, 0, 0xFF, 0xFF, 0xFF, 0x3F, 2, 0, 0, 0xC0, 0x40, 0, 0, 0,
+    ];
+    assert_eq!(rt; bytes.as_slice(), want.as_slice());
     Ok(())
 }
 

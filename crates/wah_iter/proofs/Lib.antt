@@ -6,3 +6,4 @@ pub mod RowLaws
 pub mod WalkLaws
 pub mod RunLaws
 pub mod ApartLaws
+pub mod RangeLaws

@@ -6,7 +6,7 @@ use Rattle.std.proofs.Math.Nat.{mod-eq_of_lt}
 use Rattle.wah_words.specs.Places.{places}
 use Rattle.wah_words.proofs.PlacesLemmas.{length-places, places-zeros, places-ones}
 use Rattle.wah_iter.specs.Rows.{rows_from, rows_of}
-use Rattle.wah_iter.proofs.RowLaws.{rows_from-append, rows_from-zeros, rows-zeros}
+use Rattle.wah_iter.proofs.RowLaws.{rows_from-append, rows_from-zeros, rows-zeros, rows_one}
 use Rattle.wah_iter.proofs.PlacesLaws.{places-cat}
 use Rattle.wah_iter.proofs.AppendLaws.{joined_below}
 
@@ -22,15 +22,11 @@ pub packed_none : (base width : ℕ) → Packed base width 0 0 []
 unfolding rows_from places
 packed_none base width = record { within = omega arith; bits = 0; few = omega arith; word_is = omega arith; rows_are = refl }
 
-one_row : (k : ℕ) → rows_from k (places 1 1) ≡ k ∷ []
-unfolding rows_from places
-one_row k = refl
-
 -- the last of some places
 last_row : (k m : ℕ) → rows_from k (places (m + 1) 1) ≡ (k + m) ∷ []
 last_row k m =
     let cat : places (m + 1) 1 ≡ places m 0 ++ places 1 1 = places-cat m 1 0 1 (omega arith) in
-    ap (rows_from k) cat ∙ rows_from-append k (places m 0) (places 1 1) ∙ rw (places-zeros m, rows_from-zeros k m, length-replicate m false) (one_row (k + m))
+    ap (rows_from k) cat ∙ rows_from-append k (places m 0) (places 1 1) ∙ rw (places-zeros m, rows_from-zeros k m, length-replicate m false) (rows_one (k + m))
 
 -- one row more, at place p
 pub packed_more : (base width k word p : ℕ) (rows : List ℕ) → Packed base width k word rows → k ≤ p → p < width → Packed base width (p + 1) (word + 2 ^ (width - 1 - p)) (rows ++ (base + p) ∷ [])

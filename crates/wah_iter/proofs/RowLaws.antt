@@ -23,6 +23,10 @@ rows_from-zeros k (suc n) = rows_from-zeros (k + 1) n
 pub rows-zeros : (v w : List Bool) (n : ℕ) → w ≡ v ++ replicate n false → rows_of w ≡ rows_of v
 rows-zeros v w n e = ap rows_of e ∙ rows_from-append 0 v (replicate n false) ∙ ap (λ l. rows_of v ++ l) (rows_from-zeros (0 + length v) n) ∙ append-nil (rows_of v)
 
+pub rows_one : (k : ℕ) → rows_from k (places 1 1) ≡ k ∷ []
+unfolding rows_from places
+rows_one k = refl
+
 pub rows_none : (v : List Bool) → v ≡ [] → rows_of v ≡ []
 unfolding rows_from
 rows_none v e = ap rows_of e

@@ -3,9 +3,9 @@ ghost use Rattle.std.specs.Prelude.{◌≡◌, ◌+◌, ◌*◌, ◌%◌, ◌<�
 use super::*;
 use std::alloc::{AllocError, Global};
 use std::marker::Brand;
-use std::sync::ledger::{Blank, Ledger};
+use std::sync::ledger::Ledger;
 use std::test::Fail;
-use steps::Steps;
+use steps::{Blank, Count, Steps};
 use wah_words::{Builder, MAX_LEN, Wah};
 
 /// The list of these runs of values.
@@ -245,12 +245,12 @@ const FEW: &[u8] = &[
 fn ones_leave_the_other_vector(rt: HostRuntime) -> Result<(), Fail> {
     let (a, _) = Wah::from_bytes(rt.alloc(), ALL)?;
     let (b, _) = Wah::from_bytes(rt.alloc(), FEW)?;
-    let answers = answered::<Brand>(Blank::new(1), rt.alloc(), a, b)?.ok_or("two lengths")?;
+    let answers = answered::<Brand>(rt.blank(), rt.alloc(), a, b)?.ok_or("two lengths")?;
     assert_eq!(rt; answers.and.as_slice(), FEW);
     assert_eq!(rt; answers.common, 34);
     assert_eq!(rt; answers.complement.as_slice(), NOTHING);
     assert_eq!(rt; answers.union.as_slice(), ALL);
-    let none = union_of_none::<Brand>(Blank::new(1), rt.alloc())?;
+    let none = union_of_none::<Brand>(rt.blank(), rt.alloc())?;
     assert_eq!(rt; none.as_slice(), NO_VECTORS);
     Ok(())
 }
@@ -258,7 +258,7 @@ fn ones_leave_the_other_vector(rt: HostRuntime) -> Result<(), Fail> {
 /// The vectors have 3,070 words in all, and 1,024 has 11 binary digits: `or_many` takes at most 33,770 steps.
 #[test]
 fn union_of_many_has_the_rows_of_each(rt: HostRuntime) -> Result<(), Fail> {
-    let bytes = union_of_groups::<Brand>(Blank::new(1), rt.alloc(), 1024)?;
+    let bytes = union_of_groups::<Brand>(rt.blank(), rt.alloc(), 1024)?;
     let mut want = vec![in rt.alloc(); 0, 0x7C, 0, 0, 0, 4, 0, 0]?;
     for _ in 0..1024 {
         want.extend_from_slice(&[0, 0, 0, 0x40])?;
@@ -271,7 +271,7 @@ fn union_of_many_has_the_rows_of_each(rt: HostRuntime) -> Result<(), Fail> {
 #[test]
 fn unions_of_few_leave_none_out(rt: HostRuntime) -> Result<(), Fail> {
     for groups in 1..10 {
-        let bytes = union_of_groups::<Brand>(Blank::new(1), rt.alloc(), groups)?;
+        let bytes = union_of_groups::<Brand>(rt.blank(), rt.alloc(), groups)?;
         let mut want = vec![in rt.alloc();
             (31 * groups % 256) as u8,
             (31 * groups / 256) as u8,
@@ -294,7 +294,7 @@ fn unions_of_few_leave_none_out(rt: HostRuntime) -> Result<(), Fail> {
 fn pairs_stand_at_equal_places(rt: HostRuntime) -> Result<(), Fail> {
     let (a, _) = Wah::from_bytes(rt.alloc(), ALL)?;
     let (b, _) = Wah::from_bytes(rt.alloc(), FEW)?;
-    let pairs = pairs_of::<Brand>(Blank::new(1), rt.alloc(), &a, &b)?;
+    let pairs = pairs_of::<Brand>(rt.blank(), rt.alloc(), &a, &b)?;
     let want = [
         Pair::Words {
             a: 0x7FFF_FFFF,
@@ -354,7 +354,7 @@ fn operations_are_those_of_the_lists(rt: HostRuntime) -> Result<(), Fail> {
     for (a, b) in table {
         let x = listed(rt.alloc(), a)?;
         let y = listed(rt.alloc(), b)?;
-        assert!(rt; all_agree::<Brand>(Blank::new(1), rt.alloc(), &x, &y)?);
+        assert!(rt; all_agree::<Brand>(rt.blank(), rt.alloc(), &x, &y)?);
     }
     Ok(())
 }

@@ -1,4 +1,5 @@
 ghost use Rattle.std.specs.Prelude.{◌≡◌, ℕ, ◌+◌, ◌-◌, ◌*◌, ◌/◌, ◌^◌, ◌<◌, ◌≤◌, ◌++◌, length, take, drop, min, slice_range, IfOk};
+ghost use Rattle.wah_words.specs.Limits.{most_bits};
 ghost use Rattle.wah_words.specs.Places.{places};
 ghost use Rattle.wah_words.specs.Spelling.{words_of};
 ghost use Rattle.wah_words.specs.Left.{run_values};
@@ -27,7 +28,7 @@ fn part_of(bits: u32, total: u32, first: u32, count: u32) -> u32
 fn append_part(out: &mut Appender, run: Run, first: u32, count: u32)
     requires fits { Fits run }
     requires within { first + count ≤ length (run_values run) }
-    requires limit { length out.old.values + count ≤ 4194304 }
+    requires limit { length out.old.values + count ≤ most_bits }
     requires room { min 2 ((length out.old.values + count) / 31 - length out.old.values / 31) ≤ out.old.spare }
     ensures values { out.new.values ≡ out.old.values ++ take count (drop first (run_values run)) }
     ensures spare { out.old.spare ≤ out.new.spare + min 2 ((length out.old.values + count) / 31 - length out.old.values / 31) }
@@ -50,7 +51,7 @@ fn append_slice<L: Ledger>(
     steps: &mut Steps<L>,
 )
     requires within { first + count ≤ length v.now }
-    requires limit { length out.old.values + count ≤ 4194304 }
+    requires limit { length out.old.values + count ≤ most_bits }
     requires room { min (2 * words_of v.now) ((length out.old.values + count) / 31 - length out.old.values / 31) ≤ out.old.spare }
     ensures values { out.new.values ≡ out.old.values ++ take count (drop first v.now) }
     ensures spare { out.old.spare ≤ out.new.spare + min (2 * words_of v.now) ((length out.old.values + count) / 31 - length out.old.values / 31) }
@@ -86,7 +87,7 @@ pub fn concat<L: Ledger>(
     b: &Wah,
     steps: &mut Steps<L>,
 ) -> Result<Wah, AllocError>
-    requires { length a.now + length b.now ≤ 4194304 }
+    requires { length a.now + length b.now ≤ most_bits }
     ensures joined { IfOk result (λ v. v ≡ a.now ++ b.now) }
     ensures steps { steps.new ≤ steps.old + words_of a.now + words_of b.now }
 {

@@ -1,5 +1,6 @@
 //! Vectors made from rows, a group at a time.
 ghost use Rattle.std.specs.Prelude.{◌≡◌, ℕ, ◌+◌, ◌-◌, ◌*◌, ◌/◌, ◌%◌, ◌^◌, ◌<◌, ◌≤◌, false, ◌++◌, length, take, min, replicate, slice_index, IfOk};
+ghost use Rattle.wah_words.specs.Limits.{most_bits};
 ghost use Rattle.wah_words.specs.Places.{places};
 ghost use Rattle.wah_iter.specs.Rows.{rows_from, rows_of};
 
@@ -34,7 +35,7 @@ fn word_of_rows(rows: &[u32], base: u32, width: u32) -> (u32, usize)
 fn group_of_rows(rows: &[u32], base: u32) -> (u32, usize)
     requires rising { (i : ℕ) → i + 1 < length rows.now → slice_index rows.now i < slice_index rows.now (i + 1) }
     requires from { 0 < length rows.now → base ≤ slice_index rows.now 0 }
-    requires limit { base + 31 ≤ 4194304 }
+    requires limit { base + 31 ≤ most_bits }
     ensures rows { rows_from base (places 31 result.0) ≡ take result.1 rows.now }
     ensures fits { result.0 < 2 ^ 31 }
     ensures within { result.1 ≤ length rows.now }
@@ -51,7 +52,7 @@ fn group_of_rows(rows: &[u32], base: u32) -> (u32, usize)
 fn push_zeros(out: &mut Builder, groups: u32)
     requires aligned { length out.old.values % 31 ≡ 0 }
     requires room { min 1 groups ≤ out.old.spare }
-    requires limit { length out.old.values + 31 * groups ≤ 4194304 }
+    requires limit { length out.old.values + 31 * groups ≤ most_bits }
     ensures values { out.new.values ≡ out.old.values ++ replicate (31 * groups) false }
     ensures spare { out.old.spare ≤ out.new.spare + min 1 groups }
 {
@@ -67,7 +68,7 @@ fn push_group(out: &mut Builder, rows: &[u32]) -> usize
     requires some { 0 < length rows.now }
     requires from { length out.old.values ≤ slice_index rows.now 0 }
     requires aligned { length out.old.values % 31 ≡ 0 }
-    requires limit { 31 * (slice_index rows.now 0 / 31) + 31 ≤ 4194304 }
+    requires limit { 31 * (slice_index rows.now 0 / 31) + 31 ≤ most_bits }
     requires room { min 2 (slice_index rows.now 0 / 31 + 1 - length out.old.values / 31) ≤ out.old.spare }
     ensures rows { rows_of out.new.values ≡ rows_of out.old.values ++ take result rows.now }
     ensures some { 0 < result }
@@ -88,7 +89,7 @@ fn push_rest(out: &mut Builder, rows: &[u32], len: u32)
     requires rising { (i : ℕ) → i + 1 < length rows.now → slice_index rows.now i < slice_index rows.now (i + 1) }
     requires from { 0 < length rows.now → 31 * (len / 31) ≤ slice_index rows.now 0 }
     requires below { (i : ℕ) → i < length rows.now → slice_index rows.now i < len }
-    requires limit { len ≤ 4194304 }
+    requires limit { len ≤ most_bits }
     requires aligned { length out.old.values % 31 ≡ 0 }
     requires within { length out.old.values ≤ len }
     requires room { min 1 (len / 31 - length out.old.values / 31) ≤ out.old.spare }
@@ -107,7 +108,7 @@ fn push_rest(out: &mut Builder, rows: &[u32], len: u32)
 pub fn from_rows(alloc: Global, rows: &[u32], len: u32) -> Result<Wah, AllocError>
     requires rising { (i : ℕ) → i + 1 < length rows.now → slice_index rows.now i < slice_index rows.now (i + 1) }
     requires below { (i : ℕ) → i < length rows.now → slice_index rows.now i < len }
-    requires limit { len ≤ 4194304 }
+    requires limit { len ≤ most_bits }
     ensures length { IfOk result (λ v. length v ≡ len) }
     ensures rows { IfOk result (λ v. rows_of v ≡ rows.now) }
 {

@@ -1,5 +1,6 @@
 //! Unions of many vectors.
 ghost use Rattle.std.specs.Prelude.{◌≡◌, ℕ, ◌+◌, ◌*◌, ◌^◌, ◌<◌, ◌≤◌, false, All, length, map, replicate, IfOk};
+ghost use Rattle.wah_words.specs.Limits.{most_bits};
 ghost use Rattle.wah_words.specs.Spelling.{words_of};
 ghost use Rattle.wah_logic.specs.Logic.{each_place, or, union, groups_and_rest, words_in};
 
@@ -13,7 +14,7 @@ use wah_words::{Builder, Wah};
 
 /// So many values that are false.
 fn zeros(alloc: Global, len: u32) -> Result<Wah, AllocError>
-    requires { len ≤ 4194304 }
+    requires { len ≤ most_bits }
     ensures { IfOk result (λ v. v ≡ replicate len false) }
 {
     let mut out = Builder::with_room(alloc, 1)?;
@@ -98,7 +99,7 @@ pub fn or_many<T: HasRows, L: Ledger>(
     len: u32,
     steps: &mut Steps<L>,
 ) -> Result<Wah, AllocError>
-    requires limit { len ≤ 4194304 }
+    requires limit { len ≤ most_bits }
     requires same { All (λ v. length v ≡ len) (map T.row_bits list.now) }
     ensures values { IfOk result (λ v. v ≡ union len (map T.row_bits list.now)) }
 

@@ -9,16 +9,16 @@ use fb_outside::{FolderStore, StdSink, StdSource};
 use std::alloc::AllocError;
 use std::marker::Brand;
 use std::process::ExitCode;
-use std::sync::ledger::{Blank, Ledger};
+use std::sync::ledger::Ledger;
 use std::{env, io};
-use steps::Steps;
+use steps::{Blank, Count, Steps};
 
 /// The code with which the program ends where the system doesn't give it its words. It is the code of no status.
 const NO_WORDS: u8 = 14;
 
 fn main(rt: HostRuntime) -> ExitCode {
     match words_of(&rt) {
-        Ok(words) => match command::<Brand>(&rt, &words, Blank::new(1)) {
+        Ok(words) => match command::<Brand>(&rt, &words, rt.blank()) {
             Ok(status) => ExitCode::from(status.code()),
             Err(_) => ExitCode::from(Status::OutOfMemory.code()),
         },

@@ -7,8 +7,8 @@ use fb_outside::{FailAt, MemSink, MemSource, MemStore};
 use std::alloc::AllocError;
 use std::marker::Brand;
 use std::process::Abort;
-use std::sync::ledger::Blank;
 use std::test::Fail;
+use steps::{Blank, Count};
 
 /// Runs a command, and answers its status's number.
 fn answer<L: Ledger>(
@@ -42,7 +42,7 @@ struct Case<'a> {
     printed: &'static str,
 }
 
-fn expect<R: Abort + AllocGlobal>(
+fn expect<R: Abort + AllocGlobal + Count>(
     rt: &R,
     store: &mut MemStore,
     case: &Case,
@@ -52,7 +52,7 @@ fn expect<R: Abort + AllocGlobal>(
     let words = case.words;
     let code = answer::<Brand>(
         rt.alloc(),
-        Blank::new(1),
+        rt.blank(),
         &words,
         &mut source,
         store,
@@ -235,7 +235,7 @@ fn refuses_words_and_schemas(rt: HostRuntime) -> Result<(), Fail> {
 }
 
 /// Puts a file.
-fn keep<R: Abort + AllocGlobal>(
+fn keep<R: Abort + AllocGlobal + Count>(
     rt: &R,
     store: &mut MemStore,
     name: &str,
@@ -249,7 +249,7 @@ fn keep<R: Abort + AllocGlobal>(
 }
 
 /// Asks a dataset in a store for a count.
-fn expect_asked<R: Abort + AllocGlobal>(
+fn expect_asked<R: Abort + AllocGlobal + Count>(
     rt: &R,
     store: &mut MemStore,
     dir: &'static str,

@@ -1,5 +1,6 @@
 //! Operations on whole vectors.
 ghost use Rattle.std.specs.Prelude.{◌≡◌, ◌+◌, ◌%◌, ◌<◌, ◌≤◌, not, map, [], ◌++◌, length, IfOk};
+ghost use Rattle.wah_words.specs.Limits.{most_bits};
 ghost use Rattle.wah_words.specs.Spelling.{words_of};
 ghost use Rattle.wah_words.specs.Left.{run_values};
 ghost use Rattle.wah_logic.specs.Logic.{each_place, and, ones};
@@ -20,7 +21,7 @@ fn push_run(out: &mut Builder, run: Run)
     requires part { IsPart run [] }
     requires aligned { length out.old.values % 31 ≡ 0 }
     requires room { 1 ≤ out.old.spare }
-    requires limit { length out.old.values + length (run_values run) ≤ 4194304 }
+    requires limit { length out.old.values + length (run_values run) ≤ most_bits }
     ensures values { out.new.values ≡ out.old.values ++ run_values run }
     ensures spare { out.old.spare ≤ out.new.spare + 1 }
     ensures words { words_of out.new.values ≤ words_of out.old.values + 1 }
@@ -55,7 +56,7 @@ pub fn combine<O: BitOp, L: Ledger>(a: &Wah, b: &Wah, out: Builder, steps: &mut 
 #[inline(always)]
 fn ones_of(run: Run) -> u32
     requires part { IsPart run [] }
-    requires limit { length (run_values run) ≤ 4194304 }
+    requires limit { length (run_values run) ≤ most_bits }
     ensures { result ≡ ones (run_values run) }
 {
     match run {

@@ -1,11 +1,11 @@
 -- What opening a text column, and reading texts of it, gives over files that are told.
-use Rattle.std.specs.Prelude.{◌≡◌, ◌≢◌, ◌<◌, ◌≤◌, ◌==◌, ◌+◌, ◌*◌, ℕ, suc, Bool, List, length, slice_index, Option, Some, None, Result, Ok, Err, if◌then◌else◌}
+use Rattle.std.specs.Prelude.{◌≡◌, ◌≢◌, ◌<◌, ◌≤◌, ◌==◌, ◌+◌, ◌*◌, ℕ, suc, Bool, Vec, List, length, slice_index, Option, Some, None, Result, Ok, Err, if◌then◌else◌}
 use Rattle.wah_words.specs.declared.fault.WordsFault.TheVariants as words
 use Rattle.column_file.specs.declared.fault.ColFault.{ColFault}
 use Rattle.column_file.specs.declared.fault.ColFault.TheVariants as column
 use Rattle.column_file.specs.Opening.{mask_in, StopsMask}
 use Rattle.text_column.specs.Texts.{first_wrong, starts_at, texts_at}
-use Rattle.text_column.specs.declared.texts.TextRef.{TextRef}
+use Rattle.text_column.specs.declared.text_ref.TextRef.{TextRef}
 use Rattle.text_column.specs.declared.fault.TextFault.{TextFault}
 use Rattle.text_column.specs.declared.fault.TextFault.TheVariants.{Missing, StartsMissing, StartsLength, NotRising, LastStart, ShortRead, Mask, Store, OutOfMemory}
 
@@ -54,6 +54,23 @@ StopsOpeningText rows (Mask column.Store) = ⊥
 StopsOpeningText rows (Mask column.OutOfMemory) = ⊥
 StopsOpeningText rows (Mask fault) = StopsMask rows fault
 StopsOpeningText rows fault = Unit {0}
+
+-- what a vector holds
+abbrev pub listed : {X A : Type 0} → Result (Vec X A) TextFault → Result (List X) TextFault
+listed (Ok items) = Ok items.items
+listed (Err fault) = Err fault
+
+-- the same of the starts alone
+abbrev pub OpensStarts : Result (List ℕ) TextFault → Result (List ℕ) TextFault → Type 0
+OpensStarts (Ok starts) given = given ≡ Ok starts
+OpensStarts (Err Store) given = Unit {0}
+OpensStarts (Err OutOfMemory) given = Unit {0}
+OpensStarts (Err fault) given = given ≡ Err fault
+
+abbrev pub StopsStarts : ℕ → TextFault → Type 0
+StopsStarts rows Missing = ⊥
+StopsStarts rows (Mask fault) = ⊥
+StopsStarts rows fault = StopsOpeningText rows fault
 
 -- ---- reading texts
 

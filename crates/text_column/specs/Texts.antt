@@ -1,5 +1,5 @@
 -- The two files of a text column: the bytes of its texts, and where each row's begin.
-use Rattle.std.specs.Prelude.{ℕ, zero, suc, ◌+◌, ◌-◌, ◌*◌, ◌<◌, ◌==◌, List, [], ◌∷◌, length, take, drop, slice_index, Option, None, Some, option_map, Result, Ok, Err, nat_lt, if◌then◌else◌}
+use Rattle.std.specs.Prelude.{ℕ, zero, suc, ◌+◌, ◌-◌, ◌*◌, ◌<◌, ◌≤◌, ◌==◌, List, [], ◌∷◌, length, take, drop, slice_index, Option, None, Some, option_map, Result, Ok, Err, nat_lt, if◌then◌else◌}
 use Rattle.std.specs.Int.{w64, to_le_bytes, from_le_bytes}
 use Rattle.std.specs.List.{flat_map}
 
@@ -44,6 +44,12 @@ abbrev pub texts_at : List ℕ → List ℕ → List (List ℕ)
 texts_at [] bytes = []
 texts_at (start ∷ []) bytes = []
 texts_at (start ∷ next ∷ starts) bytes = take (next - start) bytes ∷ texts_at (next ∷ starts) (drop (next - start) bytes)
+
+-- the bytes have what the starts part
+abbrev pub AreWithin : List ℕ → List ℕ → Type 0
+AreWithin [] bytes = Unit {0}
+AreWithin (start ∷ []) bytes = Unit {0}
+AreWithin (start ∷ next ∷ starts) bytes = (start ≤ next) × (next - start ≤ length bytes) × AreWithin (next ∷ starts) (drop (next - start) bytes)
 
 -- the starts of the rows from `first` to `end`, and the place where these end
 abbrev pub starts_between : List ℕ → ℕ → ℕ → List ℕ

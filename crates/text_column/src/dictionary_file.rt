@@ -1,6 +1,6 @@
 //! The dictionary file: the number of words, and each word behind its length.
 
-ghost use Rattle.std.specs.Prelude.{◌≡◌, ◌<◌, ◌≤◌, ℕ, List, Ok, Err, Some, None, IfErr, IfOk, IfSome, IsErrOf, MatchOption, MatchResult, OnOk, length, option_map};
+ghost use Rattle.std.specs.Prelude.{◌≡◌, ◌<◌, ◌≤◌, ◌⊎◌, [], ℕ, List, Ok, Err, Some, None, IfErr, IfOk, IfSome, IsErrOf, MatchOption, MatchResult, OnOk, length, option_map};
 ghost use Rattle.fb_outside.specs.Causes.{HasCause};
 ghost use Rattle.fb_outside.specs.Files.{SameFiles, file_at, told_at};
 ghost use Rattle.fb_outside.specs.Reads.{AddsOnly, AddsRead, IsWholeLook, whole_look};
@@ -100,7 +100,7 @@ fn words_of(alloc: Global, count: u32, bytes: &[u8]) -> Result<Dictionary, DicFa
 
 /// The word at the front of the bytes, behind its length, and the bytes behind it; None where it is cut off.
 fn word_of_bytes(bytes: &[u8]) -> Option<(&[u8], &[u8])>
-    ensures { option_map (λ p. (p.0.now, p.1.now)) result ≡ word_at bytes.now }
+    ensures value { option_map (λ p. (p.0.now, p.1.now)) result ≡ word_at bytes.now }
     ensures small { MatchOption result (0 ≤ length bytes.now) (λ p. length p.0.now ≤ 65535) }
 {
     let Some((size, rest)) = bytes.split_first_chunk::<2>() else {

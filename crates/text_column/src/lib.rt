@@ -6,11 +6,12 @@ mod dictionary_file;
 mod fault;
 mod laws;
 mod numbers;
-mod text_bytes;
-mod text_reads;
-mod texts;
 #[cfg(test)]
 mod tests;
+mod text_files;
+mod text_reads;
+mod text_ref;
+mod texts;
 
 pub use dictionary::Dictionary;
 pub use dictionary_file::open_dictionary;
@@ -20,6 +21,7 @@ pub use laws::{
     written_texts_open,
 };
 pub use patterns::like;
-pub use text_bytes::text_bytes;
+pub use text_files::text_bytes;
 pub use text_reads::read_texts;
-pub use texts::{TextRef, open_text};
+pub use text_ref::TextRef;
+pub use texts::open_text;

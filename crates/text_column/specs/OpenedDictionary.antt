@@ -9,12 +9,16 @@ abbrev pub dictionary_of : Option (List ℕ) → Result (List (List ℕ)) DicFau
 dictionary_of None = Err Missing
 dictionary_of (Some bytes) = dictionary_in bytes
 
+-- what a fault says, unless the store failed or memory ran out
+abbrev pub Says : DicFault → Type 0 → Type 0
+Says Store fact = Unit {0}
+Says OutOfMemory fact = Unit {0}
+Says fault fact = fact
+
 -- What a call answered is what reading gives, unless the store failed or memory ran out.
 abbrev pub OpensWords : Result (List (List ℕ)) DicFault → Result (List (List ℕ)) DicFault → Type 0
 OpensWords (Ok words) given = given ≡ Ok words
-OpensWords (Err Store) given = Unit {0}
-OpensWords (Err OutOfMemory) given = Unit {0}
-OpensWords (Err fault) given = given ≡ Err fault
+OpensWords (Err fault) given = Says fault (given ≡ Err fault)
 
 -- what reading bytes may answer: nothing that only a store can tell
 abbrev pub StopsReadingWords : DicFault → Type 0

@@ -80,9 +80,7 @@ impl Dictionary {
         ensures new { OnErr result (code_in self.old word ≡ None) }
         ensures err { OnErr result (self.new ≡ self.old) }
     {
-        match self.words.insert_full(word.into_vec()) {
-            Ok((place, _)) => Ok(place as u32 + 1),
-            Err(_) => Err(AllocError),
-        }
+        let (place, _) = self.words.insert_full(word.into_vec())?;
+        Ok(place as u32 + 1)
     }
 }

@@ -1,11 +1,11 @@
 //! The dictionary file: the number of words, and each word behind its length.
 
-ghost use Rattle.std.specs.Prelude.{◌≡◌, ◌<◌, ◌≤◌, ◌⊎◌, [], ℕ, List, Ok, Err, Some, None, IfErr, IfOk, IfSome, IsErrOf, MatchOption, MatchResult, OnOk, length, option_map};
+ghost use Rattle.std.specs.Prelude.{◌≡◌, ◌<◌, ◌≤◌, [], ℕ, List, Ok, Err, Some, None, IfErr, IfOk, IfSome, IsErrOf, MatchOption, MatchResult, OnOk, length, option_map};
 ghost use Rattle.fb_outside.specs.Causes.{HasCause};
 ghost use Rattle.fb_outside.specs.Files.{SameFiles, file_at, told_at};
 ghost use Rattle.fb_outside.specs.Reads.{AddsOnly, AddsRead, IsWholeLook, whole_look};
 ghost use Rattle.text_column.specs.DictionaryFile.{counted_in, dictionary_bytes, dictionary_in, next_in, word_at, words_bytes, words_in};
-ghost use Rattle.text_column.specs.OpenedDictionary.{OpensWords, StopsReadingWords, dictionary_of};
+ghost use Rattle.text_column.specs.OpenedDictionary.{OpensWords, Says, StopsReadingWords, dictionary_of};
 ghost use Rattle.text_column.specs.Words.{IsDictionary};
 
 use crate::dictionary::Dictionary;
@@ -26,8 +26,8 @@ impl Dictionary {
         let mut bytes = Vec::new(alloc);
         let count = self.len();
         push_u32(&mut bytes, count)?;
-        for code in 1..=count {
-            let Some(word) = self.word_of(code) else {
+        for place in 0..count {
+            let Some(word) = self.word_of(place + 1) else {
                 unreachable!()
             };
             push_u16(&mut bytes, word.len() as u16)?;
@@ -37,6 +37,7 @@ impl Dictionary {
     }
 
     /// The dictionary whose file has these bytes, or the first fault among them.
+    #[tactic(auto, unfolding(crate::specs::DictionaryFile::dictionary_in))]
     pub fn from_bytes(alloc: Global, bytes: &[u8]) -> Result<Dictionary, DicFault>
         ensures exact { OpensWords result (dictionary_in bytes.now) }
         ensures stop { IfErr result StopsReadingWords }
@@ -59,7 +60,7 @@ impl Dictionary {
     fn add_from<'a>(&mut self, alloc: Global, bytes: &'a [u8]) -> Result<&'a [u8], DicFault>
         requires { length self.old < 4194304 }
         ensures ok { IfOk result (λ rest. next_in self.old bytes.now ≡ Ok (self.new, rest.now)) }
-        ensures err { IfErr result (λ fault. IsErrOf result DicFault.OutOfMemory ⊎ (next_in self.old bytes.now ≡ Err fault)) }
+        ensures err { IfErr result (λ fault. Says fault (next_in self.old bytes.now ≡ Err fault)) }
         ensures stop { IfErr result StopsReadingWords }
     {
         let Some((word, rest)) = word_of_bytes(bytes) else {

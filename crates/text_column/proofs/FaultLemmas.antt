@@ -1,10 +1,11 @@
 -- What reading a dictionary's bytes has found: the words, or the first fault.
-use Rattle.std.proofs.Common.{◌≡◌, ◌⊎◌, inl, inr, ℕ, zero, suc, ◌+◌, ◌<◌, ◌≤◌, Bool, true, false, cond, List, [], ◌∷◌, ◌++◌, length, take, drop, Result, Ok, Err, nat_lt, refl, sym, ap, subst, ◌∙◌, arith, length-append, append_assoc, append-nil}
+use Rattle.std.proofs.Common.{◌≡◌, ◌⊎◌, inl, inr, ℕ, zero, suc, ◌+◌, ◌<◌, ◌≤◌, Bool, true, false, cond, List, [], ◌∷◌, ◌++◌, length, take, drop, Result, Ok, Err, IfOk, nat_lt, refl, sym, ap, subst, ◌∙◌, arith, length-append, append_assoc, append-nil}
 use mir.Syntax.{w32}
 use Rattle.std.specs.Int.{to_le_bytes}
 use Rattle.std.proofs.lemmas.Bool.{ltb-true, ltb-false}
 use Rattle.text_column.specs.Words.{IsDictionary}
 use Rattle.text_column.specs.DictionaryFile.{Begins, BeginsMore, IsFaultOf, word_bytes, words_bytes, dictionary_bytes, count_at, next_in, to_its_end, and_then, words_in, counted_in, dictionary_in}
+use Rattle.text_column.specs.OpenedDictionary.{OpensWords}
 use Rattle.text_column.specs.declared.fault.DicFault.{DicFault}
 use Rattle.text_column.specs.declared.fault.DicFault.TheVariants.{Short, TooMany, Empty, Repeated, Trailing}
 use Rattle.text_column.proofs.NumberLemmas.{AreBytes, AreBytes-drop, wide_32, number_spelled}
@@ -62,7 +63,7 @@ found_words bytes count (suc n) done rest are all h =
 found_counted : (bytes : List ℕ) → AreBytes bytes → 4 ≤ length bytes → Found bytes [] (counted_in (count_at bytes) (drop 4 bytes))
 found_counted bytes are four =
     elim (nat_lt 4194304 (count_at bytes)) as (λ b. nat_lt 4194304 (count_at bytes) ≡ b → Found bytes [] (cond b (Err TooMany) (words_in (count_at bytes) ([], drop 4 bytes)))) [
-        true ↦ λ e. (four, ltb-true 4194304 (count_at bytes) e)
+      | true ↦ λ e. (four, ltb-true 4194304 (count_at bytes) e)
       | false ↦ λ e.
           let all : 0 + count_at bytes ≡ count_at bytes = omega arith in
           found_words bytes (count_at bytes) (count_at bytes) [] (drop 4 bytes) (AreBytes-drop 4 bytes are) all
@@ -74,7 +75,7 @@ pub found_in : (bytes : List ℕ) → AreBytes bytes → Found bytes [] (diction
 unfolding dictionary_in
 found_in bytes are =
     elim (nat_lt (length bytes) 4) as (λ b. nat_lt (length bytes) 4 ≡ b → Found bytes [] (cond b (Err Short) (counted_in (count_at bytes) (drop 4 bytes)))) [
-        true ↦ λ e. inl (ltb-true (length bytes) 4 e)
+      | true ↦ λ e. inl (ltb-true (length bytes) 4 e)
       | false ↦ λ e. found_counted bytes are (ltb-false (length bytes) 4 e)
     ] refl
 
@@ -83,3 +84,8 @@ found_dictionary bytes words are h = subst (Found bytes []) h (found_in bytes ar
 
 pub found_fault : (bytes : List ℕ) (fault : DicFault) → AreBytes bytes → dictionary_in bytes ≡ Err fault → IsFaultOf bytes fault
 found_fault bytes fault are h = subst (Found bytes []) h (found_in bytes are)
+
+pub found_result : (bytes : List ℕ) (result : Result (List (List ℕ)) DicFault) → AreBytes bytes → OpensWords result (dictionary_in bytes)
+    → IfOk result (λ words. bytes ≡ dictionary_bytes words)
+found_result bytes (Ok words) are h = (found_dictionary bytes words are h).1
+found_result bytes (Err fault) are h = tt

@@ -74,7 +74,7 @@ place_within : (p : List ℕ → Bool) (words : List (List ℕ)) → list_any p 
 place_within p [] h = absurd (cc)
 place_within p (w ∷ ws) h =
     elim (p w) as (λ b. (b || list_any p ws) ≡ true → cond (not b) (1 + position_or_len p ws) 0 < suc (length ws)) [
-        true ↦ λ e. omega arith
+      | true ↦ λ e. omega arith
       | false ↦ λ e. let within = place_within p ws e in omega (arith, within)
     ] h
 
@@ -82,7 +82,7 @@ pub place_past : (p : List ℕ → Bool) (words : List (List ℕ)) → list_any 
 place_past p [] h = refl
 place_past p (w ∷ ws) h =
     elim (p w) as (λ b. (b || list_any p ws) ≡ false → cond (not b) (1 + position_or_len p ws) 0 ≡ suc (length ws)) [
-        true ↦ λ e. absurd (cc)
+      | true ↦ λ e. absurd (cc)
       | false ↦ λ e. let past = place_past p ws e in omega (arith, past)
     ] h
 
@@ -91,7 +91,7 @@ place-behind : (p : List ℕ → Bool) (words : List (List ℕ)) (word : List �
 place-behind p [] word h is = ap (λ b. cond (not b) 1 0) is
 place-behind p (w ∷ ws) word h is =
     elim (p w) as (λ b. (b || list_any p ws) ≡ false → cond (not b) (1 + position_or_len p (ws ++ word ∷ [])) 0 ≡ suc (length ws)) [
-        true ↦ λ e. absurd (cc)
+      | true ↦ λ e. absurd (cc)
       | false ↦ λ e. let past = place-behind p ws word e is in omega (arith, past)
     ] h
 
@@ -105,8 +105,8 @@ code_at words word place is within =
 pub code_seen : (words : List (List ℕ)) (word : List ℕ) → code_in (with_word words word) word ≡ Some (position_or_len (bytes_eq word) words + 1)
 code_seen words word =
     elim (list_any (bytes_eq word) words) as (λ b. list_any (bytes_eq word) words ≡ b
-        → code_in (cond b words (words ++ word ∷ [])) word ≡ Some (position_or_len (bytes_eq word) words + 1)) [
-        true ↦ λ e. code_at words word (position_or_len (bytes_eq word) words) refl (place_within (bytes_eq word) words e)
+    → code_in (cond b words (words ++ word ∷ [])) word ≡ Some (position_or_len (bytes_eq word) words + 1)) [
+      | true ↦ λ e. code_at words word (position_or_len (bytes_eq word) words) refl (place_within (bytes_eq word) words e)
       | false ↦ λ e.
           let last = place-behind (bytes_eq word) words word e (bytes_same word) in
           let one_more : length words < length (words ++ word ∷ []) = omega (arith, length-append words (word ∷ [])) in
@@ -155,9 +155,10 @@ pub distinct-append : (words : List (List ℕ)) (word : List ℕ) → IsDistinct
     → IsDistinct bytes_eq (words ++ word ∷ [])
 unfolding IsDistinct
 distinct-append [] word h new = (tt, tt)
-distinct-append (w ∷ ws) word h new =
-    (others-append w ws word h.0 (other_way word w (or_false_left (bytes_eq word w) (list_any (bytes_eq word) ws) new))
-    , distinct-append ws word h.1 (or_false_right (bytes_eq word w) (list_any (bytes_eq word) ws) new))
+distinct-append (w ∷ ws) word h new = (
+  others-append w ws word h.0 (other_way word w (or_false_left (bytes_eq word w) (list_any (bytes_eq word) ws) new)),
+  distinct-append ws word h.1 (or_false_right (bytes_eq word w) (list_any (bytes_eq word) ws) new),
+)
 
 -- a new word behind those of a dictionary
 pub dictionary-append : (words : List (List ℕ)) (word : List ℕ) → IsDictionary words → IsWord word → length words < 4194304
@@ -171,7 +172,7 @@ dictionary-append words word h is room new = record {
 pub dictionary_with : (words : List (List ℕ)) (word : List ℕ) → IsDictionary words → IsWord word → length words < 4194304 → IsDictionary (with_word words word)
 dictionary_with words word h is room =
     elim (list_any (bytes_eq word) words) as (λ b. list_any (bytes_eq word) words ≡ b → IsDictionary (cond b words (words ++ word ∷ []))) [
-        true ↦ λ e. h
+      | true ↦ λ e. h
       | false ↦ λ e. dictionary-append words word h is room e
     ] refl
 
@@ -180,7 +181,7 @@ pub was_there : (words : List (List ℕ)) (word : List ℕ) (given : ℕ) → co
     → list_any (bytes_eq word) words ≡ true
 was_there words word given is other =
     elim (list_any (bytes_eq word) words) as (λ b. list_any (bytes_eq word) words ≡ b → b ≡ true) [
-        true ↦ λ e. refl
+      | true ↦ λ e. refl
       | false ↦ λ e.
           let both : Some (position_or_len (bytes_eq word) words + 1) ≡ Some given = sym (code_seen words word) ∙ is in
           let same : position_or_len (bytes_eq word) words + 1 ≡ given = cc in

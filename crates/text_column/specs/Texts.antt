@@ -1,7 +1,8 @@
 -- The two files of a text column: the bytes of its texts, and where each row's begin.
-use Rattle.std.specs.Prelude.{ℕ, zero, suc, ◌+◌, ◌-◌, ◌*◌, ◌<◌, ◌≤◌, ◌==◌, List, [], ◌∷◌, length, take, drop, slice_index, Option, None, Some, option_map, Result, Ok, Err, nat_lt, if◌then◌else◌}
+use Rattle.std.specs.Prelude.{ℕ, suc, ◌+◌, ◌-◌, ◌*◌, ◌<◌, ◌≤◌, ◌==◌, List, [], ◌∷◌, length, map, take, drop, slice_index, Option, None, Some, option_map, Result, Ok, Err, nat_lt, if◌then◌else◌}
 use Rattle.std.specs.Int.{w64, to_le_bytes, from_le_bytes}
 use Rattle.std.specs.List.{flat_map}
+use Rattle.std.specs.Simd.{first_chunks}
 
 -- the texts of all rows, one after another
 abbrev pub text_file : List (List ℕ) → List ℕ
@@ -21,13 +22,9 @@ starts_bytes starts = flat_map (to_le_bytes w64) starts
 
 -- ---- reading
 
-abbrev pub start_at : List ℕ → ℕ
-start_at bytes = from_le_bytes w64 (take 8 bytes)
-
 -- so many starts
 unfoldable pub starts_at : ℕ → List ℕ → List ℕ
-starts_at zero bytes = []
-starts_at (suc n) bytes = start_at bytes ∷ starts_at n (drop 8 bytes)
+starts_at count bytes = map (from_le_bytes w64) (first_chunks 8 count bytes)
 
 -- the place of the first start that is below the one before it
 abbrev pub first_below : ℕ → List ℕ → Option ℕ

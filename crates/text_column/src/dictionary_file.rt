@@ -37,7 +37,6 @@ impl Dictionary {
     }
 
     /// The dictionary whose file has these bytes, or the first fault among them.
-    #[tactic(auto, unfolding(crate::specs::DictionaryFile::dictionary_in))]
     pub fn from_bytes(alloc: Global, bytes: &[u8]) -> Result<Dictionary, DicFault>
         ensures exact { OpensWords result (dictionary_in bytes.now) }
         ensures stop { IfErr result StopsReadingWords }
@@ -46,14 +45,7 @@ impl Dictionary {
         ensures found { IfOk result (λ words. bytes.now ≡ dictionary_bytes words) }
         ensures only { (words : List (List ℕ)) → IsDictionary words → bytes.now ≡ dictionary_bytes words → OpensWords result (Ok words) }
     {
-        let Some((count, rest)) = bytes.split_first_chunk::<4>() else {
-            return Err(DicFault::Short);
-        };
-        let count = u32::from_le_bytes(*count);
-        if count > MAX_WORDS {
-            return Err(DicFault::TooMany);
-        }
-        words_of(alloc, count, rest)
+        counted_words(alloc, bytes)
     }
 
     /// Adds the word at the front of the bytes, and answers the bytes behind it.
@@ -79,6 +71,22 @@ impl Dictionary {
             Err(_) => Err(DicFault::OutOfMemory),
         }
     }
+}
+
+/// The dictionary of the words that the first four bytes count.
+#[tactic(auto, unfolding(crate::specs::DictionaryFile::dictionary_in))]
+fn counted_words(alloc: Global, bytes: &[u8]) -> Result<Dictionary, DicFault>
+    ensures exact { OpensWords result (dictionary_in bytes.now) }
+    ensures stop { IfErr result StopsReadingWords }
+{
+    let Some((count, rest)) = bytes.split_first_chunk::<4>() else {
+        return Err(DicFault::Short);
+    };
+    let count = u32::from_le_bytes(*count);
+    if count > MAX_WORDS {
+        return Err(DicFault::TooMany);
+    }
+    words_of(alloc, count, rest)
 }
 
 /// The dictionary of so many words, whose bytes these are to their end.

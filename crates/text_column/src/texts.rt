@@ -124,6 +124,7 @@ fn starts_of_bytes(alloc: Global, bytes: &[u8], size: u64, rows: u32) -> Result<
 }
 
 /// The numbers of eight bytes each, one more than the rows.
+#[tactic(auto, unfolding(crate::specs::Texts::starts_at))]
 fn numbers_of(alloc: Global, bytes: &[u8], rows: u32) -> Result<Vec<u64>, AllocError>
     requires { length bytes.now ≡ 8 * (rows + 1) }
     ensures value { IfOk result (λ numbers. numbers.items ≡ starts_at (rows + 1) bytes.now) }
@@ -143,12 +144,30 @@ fn wrong_start(starts: &[u64]) -> Option<u32>
     ensures value { result ≡ first_wrong starts.now }
     ensures within { IfSome result (λ place. place < length starts.now) }
 {
+    let [first, later @ ..] = starts else {
+        return None;
+    };
+    if *first != 0 {
+        return Some(0);
+    }
+    match place_below(later) {
+        Some(place) => Some(place + 1),
+        None => None,
+    }
+}
+
+/// The place of the first number that is below the one before it.
+fn place_below(numbers: &[u64]) -> Option<u32>
+    requires { length numbers.now < 2 ^ 32 }
+    ensures value { result ≡ first_below 0 numbers.now }
+    ensures within { IfSome result (λ place. place < length numbers.now) }
+{
     let mut last = 0;
-    for (place, start) in starts.iter().enumerate() {
-        if *start < last || (place == 0 && *start != 0) {
+    for (place, number) in numbers.iter().enumerate() {
+        if *number < last {
             return Some(place as u32);
         }
-        last = *start;
+        last = *number;
     }
     None
 }

@@ -1,4 +1,4 @@
-use Rattle.std.proofs.Common.{◌≡◌, ◌-◌, ◌×◌, [], length}
+use Rattle.std.proofs.Common.{◌≡◌, ◌-◌, [], length}
 use Rattle.text_column.specs.DictionaryFile.{words_in}
 use Rattle.text_column.proofs.dictionary_file.words_of.Given as goal
 

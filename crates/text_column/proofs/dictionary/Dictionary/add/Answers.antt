@@ -6,8 +6,8 @@ use Rattle.text_column.proofs.dictionary.Dictionary.add.Goals as goal
 pub returns-in_err-place-clause-new : goal.returns-in_err-place-clause-new
 returns-in_err-place-clause-new c =
     let absent = no_code c.args.self.now c.args.word
-      (sym (kept_any (λ v. v.items) c.self.inside.words.keys c.into_vec.result c.args.self.now c.args.word c.self.view_is c.into_vec.ensures)
-      ∙ c.in_err-place.ensures.absent) in
+    (sym (kept_any (λ v. v.items) c.self.inside.words.keys c.into_vec.result c.args.self.now c.args.word c.self.view_is c.into_vec.ensures)
+    ∙ c.in_err-place.ensures.absent) in
     search (rules, absent)
 
 pub returns-clause-ok : goal.returns-clause-ok
@@ -24,6 +24,6 @@ pub returns-clause-code : goal.returns-clause-code
 returns-clause-code c =
     ap (λ words. code_in words c.args.word) (returns-clause-ok c) ∙ code_seen c.args.self.now c.args.word
     ∙ ap (λ n. Some (n + 1))
-      (sym
-      (c.in_ok-place.ensures.index
-      ∙ kept_place (λ v. v.items) c.self.inside.words.keys c.into_vec.result c.args.self.now c.args.word c.self.view_is c.into_vec.ensures))
+    (sym
+    (c.in_ok-place.ensures.index
+    ∙ kept_place (λ v. v.items) c.self.inside.words.keys c.into_vec.result c.args.self.now c.args.word c.self.view_is c.into_vec.ensures))

@@ -6,7 +6,7 @@ use Rattle.std.specs.List.{list_any, AllByRecursion, IsDistinct, position_or_len
 use Rattle.std.specs.Str.{bytes_eq}
 use Rattle.std.proofs.Math.Seq.{take-append_seam, drop-append_seam}
 use Rattle.std.proofs.lemmas.Bool.{lt-ltb, le-ltb, ltb-true, ltb-false}
-use Rattle.std.proofs.lemmas.List.{length-take-le}
+use Rattle.std.proofs.lemmas.List.{length-take-le, take_all}
 use Rattle.std.proofs.lemmas.Slice.Eq.{bytes_eq-Decides}
 use Rattle.std.proofs.Math.Dec.{eqb-suc-zero}
 use Rattle.text_column.specs.Words.{IsWord, IsDictionary, code_in, word_in, with_word, first_seen}
@@ -287,3 +287,19 @@ seen_from done (w ∷ ws) h each room =
 
 pub seen_dictionary : (words : List (List ℕ)) → AllByRecursion IsWord words → length words ≤ 4194304 → IsDictionary (first_seen words)
 seen_dictionary words each few = seen_from [] words no_words each (omega arith)
+
+rest_as : (r : List ℕ) (t : Result (List (List ℕ)) DicFault) (more : List (List ℕ)) (rest : List ℕ) → with_rest r t ≡ Ok (more, rest) → t ≡ Ok more
+rest_as r (Ok words) more rest h = let pair : (words, r) ≡ (more, rest) = cc in ap (λ (p : List (List ℕ) × List ℕ). Ok p.0) pair
+rest_as r (Err fault) more rest h = absurd (cc)
+
+-- a word that is read makes one more
+pub longer_next : (words : List (List ℕ)) (bytes : List ℕ) (more : List (List ℕ)) (rest : List ℕ) → next_in words bytes ≡ Ok (more, rest) → length more ≡ length words + 1
+longer_next words bytes more rest h = by (word_at bytes) h
+  where
+    by : (o : Option (List ℕ × List ℕ)) → taken words o ≡ Ok (more, rest) → length more ≡ length words + 1
+    by None g = absurd (cc)
+    by (Some (word, behind)) g = longer_as words word more (rest_as behind (taken_as words word) more rest g)
+
+pub all_written : (words : List (List ℕ)) (k : ℕ) → length words ≤ k → to_le_bytes w32 (length words) ++ words_bytes (take k words) ≡ dictionary_bytes words
+unfolding dictionary_bytes
+all_written words k h = ap (λ ws. to_le_bytes w32 (length words) ++ words_bytes ws) (take_all k words h)

@@ -2,3 +2,4 @@ pub mod NumberLemmas
 pub mod WordLemmas
 pub mod DictionaryLemmas
 pub mod FaultLemmas
+pub mod TextLemmas

@@ -3,3 +3,4 @@ pub mod WordLemmas
 pub mod DictionaryLemmas
 pub mod FaultLemmas
 pub mod TextLemmas
+pub mod OpenedLemmas

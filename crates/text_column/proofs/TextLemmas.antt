@@ -3,6 +3,7 @@ use Rattle.std.proofs.Common.{◌≡◌, ℕ, zero, suc, ◌+◌, ◌-◌, ◌*�
 use mir.Syntax.{w64}
 use Rattle.std.specs.Int.{to_le_bytes, from_le_bytes}
 use Rattle.std.specs.Simd.{first_chunks}
+use Rattle.std.specs.List.{AllByRecursion}
 use Rattle.std.proofs.Math.Seq.{take-append_seam, drop-append_seam, take-suc, drop-cons, drop-nil}
 use Rattle.std.proofs.Math.Dec.{eqb-suc-zero}
 use Rattle.std.proofs.lemmas.Bool.{lt-ltb, le-ltb, ltb-true, ltb-false, eqb-true}
@@ -216,7 +217,7 @@ pub parted_all : (texts : List (List ℕ)) → texts_at (starts_of texts) (text_
 parted_all texts = ap (texts_at (starts_of texts)) (sym (append-nil (text_file texts))) ∙ parted_again 0 texts []
 
 -- the starts of some rows are those of their texts
-start_of_row : (at : ℕ) (texts : List (List ℕ)) (k : ℕ) → k ≤ length texts → get_or (starts_from at texts) k 0 ≡ at + length (text_file (take k texts))
+pub start_of_row : (at : ℕ) (texts : List (List ℕ)) (k : ℕ) → k ≤ length texts → get_or (starts_from at texts) k 0 ≡ at + length (text_file (take k texts))
 start_of_row at texts zero h = ap (λ ss. get_or ss 0 0) (first_of_starts at texts).1 ∙ omega arith
 start_of_row at [] (suc k) h = absurd (omega arith)
 start_of_row at (t ∷ ts) (suc k) h =
@@ -288,3 +289,129 @@ rows_parted texts first end order within =
     ∙ ap (texts_at (starts_from (0 + front) rows)) (take-front (size_between (starts_of texts) first end) (text_file rows) (text_file (drop n some)) size)
     ∙ ap (texts_at (starts_from (0 + front) rows)) (sym (append-nil (text_file rows)))
     ∙ parted_again (0 + front) rows []
+
+-- ---- starts read back from their bytes
+
+abbrev pub AreSmall : List ℕ → Type 0
+AreSmall starts = AllByRecursion (λ s. s < 2 ^ 64) starts
+
+starts_cons : (s : ℕ) (ss : List ℕ) → starts_bytes (s ∷ ss) ≡ to_le_bytes w64 s ++ starts_bytes ss
+unfolding starts_bytes
+starts_cons s ss = refl
+
+starts_none : starts_bytes [] ≡ []
+unfolding starts_bytes
+starts_none = refl
+
+none_at : (bytes : List ℕ) → starts_at 0 bytes ≡ []
+unfolding starts_at
+none_at bytes = refl
+
+starts_more : (n : ℕ) (bytes : List ℕ) → starts_at (suc n) bytes ≡ from_le_bytes w64 (take 8 bytes) ∷ starts_at n (drop 8 bytes)
+unfolding starts_at
+starts_more n bytes = refl
+
+pub starts_again : (starts : List ℕ) → AreSmall starts → starts_at (length starts) (starts_bytes starts) ≡ starts
+starts_again [] h = none_at (starts_bytes [])
+starts_again (s ∷ ss) h =
+    starts_more (length ss) (starts_bytes (s ∷ ss))
+    ∙ ap (λ b. from_le_bytes w64 (take 8 b) ∷ starts_at (length ss) (drop 8 b)) (starts_cons s ss)
+    ∙ ap (λ n. n ∷ starts_at (length ss) (drop 8 (to_le_bytes w64 s ++ starts_bytes ss))) (number_front w64 8 wide_64 s (starts_bytes ss) h.0)
+    ∙ ap (λ b. s ∷ starts_at (length ss) b) (number_rest w64 8 wide_64 s (starts_bytes ss))
+    ∙ ap (λ r. s ∷ r) (starts_again ss h.1)
+
+pub length-starts_bytes : (starts : List ℕ) → length (starts_bytes starts) ≡ 8 * length starts
+length-starts_bytes [] = ap length starts_none
+length-starts_bytes (s ∷ ss) =
+    ap length (starts_cons s ss) ∙ length-append (to_le_bytes w64 s) (starts_bytes ss) ∙ omega (arith, wide_64.size_is s, length-starts_bytes ss)
+
+pub starts_spelled : (n : ℕ) (bytes : List ℕ) → AreBytes bytes → length bytes ≡ 8 * n → starts_bytes (starts_at n bytes) ≡ bytes
+starts_spelled zero [] are size = ap starts_bytes (none_at []) ∙ starts_none
+starts_spelled zero (b ∷ bs) are size = absurd (omega (arith, size))
+starts_spelled (suc n) bytes are size =
+    let eight : 8 ≤ length bytes = omega (arith, size) in
+    let left : length (drop 8 bytes) ≡ 8 * n = omega (arith, size, length-drop 8 bytes) in
+    ap starts_bytes (starts_more n bytes)
+    ∙ starts_cons (from_le_bytes w64 (take 8 bytes)) (starts_at n (drop 8 bytes))
+    ∙ ap (λ r. to_le_bytes w64 (from_le_bytes w64 (take 8 bytes)) ++ r) (starts_spelled n (drop 8 bytes) (AreBytes-drop 8 bytes are) left)
+    ∙ sym (number_spelled w64 8 wide_64 bytes are eight)
+
+-- ---- the starts of texts
+
+pub starts_small : (at : ℕ) (texts : List (List ℕ)) → at + length (text_file texts) < 2 ^ 64 → AreSmall (starts_from at texts)
+starts_small at [] h = (omega arith, tt)
+starts_small at (t ∷ ts) h = (omega arith, starts_small (at + length t) ts (omega (arith, length-append t (text_file ts))))
+
+below_from : (last at : ℕ) (texts : List (List ℕ)) → last ≤ at → first_below last (starts_from at texts) ≡ None
+below_from last at [] h = ap (λ b. cond b (Some 0) None) (le-ltb at last h)
+below_from last at (t ∷ ts) h =
+    ap (λ b. cond b (Some 0) (option_map suc (first_below at (starts_from (at + length t) ts)))) (le-ltb at last h)
+    ∙ ap (option_map suc) (below_from at (at + length t) ts (omega arith))
+
+pub starts_rise : (texts : List (List ℕ)) → first_wrong (starts_of texts) ≡ None
+starts_rise [] = refl
+starts_rise (t ∷ ts) = ap (option_map suc) (below_from 0 (0 + length t) ts (omega arith))
+
+pub last_start : (texts : List (List ℕ)) → get_or (starts_of texts) (length texts) 0 ≡ length (text_file texts)
+last_start texts =
+    let none : 0 + length (text_file texts) ≡ length (text_file texts) = omega arith in
+    start_of_row 0 texts (length texts) (omega arith) ∙ ap (λ ts. 0 + length (text_file ts)) (take_all (length texts) texts (omega arith)) ∙ none
+
+-- ---- the texts of starts
+
+pub starts_back : (start : ℕ) (starts : List ℕ) (text : List ℕ) → first_below start starts ≡ None → last_of start starts - start ≤ length text
+    → starts_from start (texts_at (start ∷ starts) text) ≡ start ∷ starts
+starts_back start [] text h room = refl
+starts_back start (next ∷ starts) text h room =
+    let two = below_none (nat_lt next start) (first_below next starts) h in
+    let more = rises_to next starts two.1 in
+    let step = ltb-false next start two.0 in
+    let first : length (take (next - start) text) ≡ next - start = length-take-le (next - start) text (omega (arith, more, step, room)) in
+    let left : last_of next starts - next ≤ length (drop (next - start) text) = omega (arith, length-drop (next - start) text, more, step, room) in
+    let sum : start + length (take (next - start) text) ≡ next = omega (arith, first, step) in
+    ap (λ n. start ∷ starts_from n (texts_at (next ∷ starts) (drop (next - start) text))) sum
+    ∙ ap (λ ss. start ∷ ss) (starts_back next starts (drop (next - start) text) two.1 left)
+
+take-two : (m n : ℕ) (text : List ℕ) → take m text ++ take n (drop m text) ≡ take (m + n) text
+take-two zero n text = let same : n ≡ 0 + n = omega arith in ap (λ k. take k text) same
+take-two (suc m) n [] = none_left n (suc m + n)
+  where
+    none_left : (a b : ℕ) → take {A = ℕ} a [] ≡ take b []
+    none_left zero zero = refl
+    none_left zero (suc b) = refl
+    none_left (suc a) zero = refl
+    none_left (suc a) (suc b) = refl
+take-two (suc m) n (x ∷ xs) = let more : suc (m + n) ≡ suc m + n = omega arith in ap (λ r. x ∷ r) (take-two m n xs) ∙ ap (λ k. take k (x ∷ xs)) more
+
+pub text_back : (start : ℕ) (starts : List ℕ) (text : List ℕ) → first_below start starts ≡ None → text_file (texts_at (start ∷ starts) text) ≡ take (last_of start starts - start) text
+text_back start [] text h = let none : 0 ≡ start - start = omega arith in ap (λ k. take k text) none
+text_back start (next ∷ starts) text h =
+    let two = below_none (nat_lt next start) (first_below next starts) h in
+    let more = rises_to next starts two.1 in
+    let step = ltb-false next start two.0 in
+    let sum : next - start + (last_of next starts - next) ≡ last_of next starts - start = omega (arith, more, step) in
+    ap (λ r. take (next - start) text ++ r) (text_back next starts (drop (next - start) text) two.1)
+    ∙ take-two (next - start) (last_of next starts - next) text ∙ ap (λ k. take k text) sum
+
+last-whole : (start : ℕ) (starts : List ℕ) (rows : ℕ) → length starts ≡ rows → last_of start starts ≡ get_or (start ∷ starts) rows 0
+last-whole start starts rows h =
+    ap (last_of start) (sym (take_all rows starts (omega (arith, h)))) ∙ last-take start starts rows (omega (arith, h))
+
+-- starts of a text file part it into texts of which they are the starts
+pub parts_of : (starts text : List ℕ) (rows : ℕ) → first_wrong starts ≡ None → length starts ≡ rows + 1 → get_or starts rows 0 ≡ length text
+    → (starts_of (texts_at starts text) ≡ starts) × (text_file (texts_at starts text) ≡ text)
+parts_of [] text rows h size last = absurd (omega (arith, size))
+parts_of (s ∷ ss) text rows h size last =
+    let two = wrong_none s ss h in
+    let zero_first : s ≡ 0 = two.0 in
+    let whole : last_of s ss ≡ length text = last-whole s ss rows (omega (arith, size)) ∙ last in
+    let all : last_of s ss - s ≡ length text = omega (arith, whole, zero_first) in (
+      ap (λ n. starts_from n (texts_at (s ∷ ss) text)) (sym zero_first) ∙ starts_back s ss text two.1 (omega (arith, all)),
+      text_back s ss text two.1 ∙ ap (λ k. take k text) all ∙ take_all (length text) text (omega arith),
+    )
+
+-- the first rows' texts are a front of all
+pub front_fits : (texts : List (List ℕ)) (k : ℕ) → length (text_file (take k texts)) ≤ length (text_file texts)
+front_fits texts zero = omega arith
+front_fits [] (suc k) = omega arith
+front_fits (t ∷ ts) (suc k) = omega (arith, length-append t (text_file (take k ts)), length-append t (text_file ts), front_fits ts k)

@@ -4,7 +4,7 @@ ghost use Rattle.std.specs.Prelude.{◌≡◌, ◌+◌, ◌-◌, ◌<◌, ◌≤
 ghost use Rattle.fb_outside.specs.Causes.{HasCause};
 ghost use Rattle.fb_outside.specs.Files.{SameFiles, bytes_at, told_at};
 ghost use Rattle.fb_outside.specs.Reads.{AddsOnly, AddsRead};
-ghost use Rattle.text_column.specs.OpenedTexts.{ReadsTexts, StopsReadingTexts, listed, read_in};
+ghost use Rattle.text_column.specs.OpenedTexts.{IsAnswer, StopsReadingTexts, listed, part_in, read_in};
 ghost use Rattle.text_column.specs.Texts.{AreWithin, size_between, starts_between, starts_of, text_file, texts_at};
 
 use crate::fault::TextFault;
@@ -28,7 +28,7 @@ pub fn read_texts<S: Store>(
     ensures stop { IfErr result StopsReadingTexts }
 
     // The texts are those whose bytes stand there, or some of the bytes are missing.
-    ensures exact { IfSome (S.files store.old) (λ m. ReadsTexts (listed result)
+    ensures exact { IfSome (S.files store.old) (λ m. IsAnswer (listed result)
         (read_in (size_between text.now.starts.items first end) (starts_between text.now.starts.items first end)
         (bytes_at m text.now.name (slice_index text.now.starts.items first) (size_between text.now.starts.items first end)))) }
 
@@ -48,10 +48,34 @@ pub fn read_texts<S: Store>(
         (record { name = text.now.name; offset = slice_index text.now.starts.items first; room = size_between text.now.starts.items first end })) }
     ensures none { size_between text.now.starts.items first end ≡ 0 → S.reads store.new ≡ S.reads store.old }
 {
-    let starts = &text.starts[first as usize..end as usize + 1];
-    let at = starts[0];
-    let size = starts[starts.len() - 1] - at;
+    texts_between(alloc, store, text, first, end)
+}
+
+fn texts_between<S: Store>(
+    alloc: Global,
+    store: &mut S,
+    text: &TextRef,
+    first: u32,
+    end: u32,
+) -> Result<Vec<Label>, TextFault>
+    requires order { first ≤ end }
+    requires rows { end ≤ text.now.rows }
+    ensures cause { HasCause (S.faults store.old) (S.faults store.new) (IsErrOf result TextFault.Store) }
+    ensures stop { IfErr result StopsReadingTexts }
+    ensures exact { IfSome (S.files store.old) (λ m. IsAnswer (listed result)
+        (read_in (size_between text.now.starts.items first end) (starts_between text.now.starts.items first end)
+        (bytes_at m text.now.name (slice_index text.now.starts.items first) (size_between text.now.starts.items first end)))) }
+    ensures files { SameFiles (S.files store.old) (S.files store.new) }
+    ensures reads { AddsOnly (λ look. look ≡ record { name = text.now.name; offset = slice_index text.now.starts.items first; room = size_between text.now.starts.items first end })
+        (S.reads store.old) (S.reads store.new) }
+    ensures once { OnOk result (0 < size_between text.now.starts.items first end → AddsRead (S.files store.old) (S.reads store.old) (S.reads store.new)
+        (record { name = text.now.name; offset = slice_index text.now.starts.items first; room = size_between text.now.starts.items first end })) }
+    ensures none { size_between text.now.starts.items first end ≡ 0 → S.reads store.new ≡ S.reads store.old }
+{
+    let at = text.starts[first as usize];
+    let size = text.starts[end as usize] - at;
     let bytes = read_part(alloc, store, &text.name, at, size)?;
+    let starts = &text.starts[first as usize..end as usize + 1];
     match texts_of(alloc, starts, &bytes) {
         Ok(texts) => Ok(texts),
         Err(_) => Err(TextFault::OutOfMemory),
@@ -69,8 +93,7 @@ fn read_part<S: Store>(
     ensures cause { HasCause (S.faults store.old) (S.faults store.new) (IsErrOf result TextFault.Store) }
     ensures stop { IfErr result StopsReadingTexts }
     ensures size { IfOk result (λ bytes. length bytes.items ≡ size) }
-    ensures given { IfOk result (λ bytes. IfSome (S.files store.old) (λ m. bytes.items ≡ bytes_at m name.now at size)) }
-    ensures short { IsErrOf result TextFault.ShortRead → IfSome (S.files store.old) (λ m. length (bytes_at m name.now at size) < size) }
+    ensures exact { IfSome (S.files store.old) (λ m. IsAnswer (listed result) (part_in size (bytes_at m name.now at size))) }
     ensures files { SameFiles (S.files store.old) (S.files store.new) }
     ensures reads { AddsOnly (λ look. look ≡ record { name = name.now; offset = at; room = size }) (S.reads store.old) (S.reads store.new) }
     ensures once { OnOk result (0 < size → AddsRead (S.files store.old) (S.reads store.old) (S.reads store.new)

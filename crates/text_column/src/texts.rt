@@ -5,7 +5,8 @@ ghost use Rattle.fb_outside.specs.Causes.{HasCause};
 ghost use Rattle.fb_outside.specs.Files.{SameFiles, file_at, told_at};
 ghost use Rattle.fb_outside.specs.Reads.{AddsOnly, AddsRead, AddsReads, IsWholeLook, whole_look};
 ghost use Rattle.wah_words.specs.Bytes.{spelling};
-ghost use Rattle.text_column.specs.OpenedTexts.{OpensStarts, OpensText, StopsOpeningText, StopsStarts, listed, opened_text, placed_in, starts_in, text_in};
+ghost use Rattle.column_file.specs.Opening.{mask_in};
+ghost use Rattle.text_column.specs.OpenedTexts.{IsAnswer, StopsMasked, StopsOpeningText, StopsStarts, and_mask, listed, masked, opened_text, starts_in, text_in};
 ghost use Rattle.text_column.specs.Texts.{first_below, first_wrong, starts_at, starts_bytes, starts_of, text_file};
 
 use crate::fault::TextFault;
@@ -29,14 +30,14 @@ pub fn open_text<S: Store>(
     ensures stop { IfErr result (StopsOpeningText rows) }
 
     // The three files are those of such a column, or have a first fault.
-    ensures exact { IfSome (S.files store.old) (λ m. OpensText (opened_text result)
+    ensures exact { IfSome (S.files store.old) (λ m. IsAnswer (opened_text result)
         (text_in rows (file_at m name.now) (file_at m starts_name.now) (file_at m mask_name.now))) }
 
     // What is written is opened.
     ensures only { (texts : List (List ℕ)) (bits : List Bool) → length texts ≡ rows → length bits ≡ rows → length bits ≤ 4194304
         → length (text_file texts) < 2 ^ 64 → told_at (S.files store.old) name.now ≡ Some (text_file texts)
         → told_at (S.files store.old) starts_name.now ≡ Some (starts_bytes (starts_of texts))
-        → told_at (S.files store.old) mask_name.now ≡ Some (spelling bits) → OpensText (opened_text result) (Ok (starts_of texts, bits)) }
+        → told_at (S.files store.old) mask_name.now ≡ Some (spelling bits) → IsAnswer (opened_text result) (Ok (starts_of texts, bits)) }
     ensures files { SameFiles (S.files store.old) (S.files store.new) }
 
     // The starts and then the mask are read, each whole and once.
@@ -45,26 +46,89 @@ pub fn open_text<S: Store>(
     ensures once { OnOk result (IfSome (S.files store.old) (λ m. AddsReads (S.reads store.old) (S.reads store.new)
         (λ added. added ≡ whole_look m starts_name.now ∷ whole_look m mask_name.now ∷ []))) }
 {
-    let size = match store.len(name.as_str()) {
-        Ok(Some(size)) => size,
-        Ok(None) => return Err(TextFault::Missing),
-        Err(_) => return Err(TextFault::Store),
-    };
+    open_files(alloc, store, name, starts_name, mask_name, rows)
+}
+
+fn open_files<S: Store>(
+    alloc: Global,
+    store: &mut S,
+    name: &FileName,
+    starts_name: &FileName,
+    mask_name: &FileName,
+    rows: u32,
+) -> Result<TextRef, TextFault>
+    ensures cause { HasCause (S.faults store.old) (S.faults store.new) (IsErrOf result TextFault.Store) }
+    ensures opened { IfOk result (λ text. (text.name ≡ name.now) × (text.rows ≡ rows) × (length text.mask ≡ rows)) }
+    ensures stop { IfErr result (StopsOpeningText rows) }
+    ensures exact { IfSome (S.files store.old) (λ m. IsAnswer (opened_text result)
+        (text_in rows (file_at m name.now) (file_at m starts_name.now) (file_at m mask_name.now))) }
+    ensures files { SameFiles (S.files store.old) (S.files store.new) }
+    ensures reads { AddsOnly (λ look. IsWholeLook (S.files store.old) starts_name.now look ⊎ IsWholeLook (S.files store.old) mask_name.now look)
+        (S.reads store.old) (S.reads store.new) }
+    ensures once { OnOk result (IfSome (S.files store.old) (λ m. AddsReads (S.reads store.old) (S.reads store.new)
+        (λ added. added ≡ whole_look m starts_name.now ∷ whole_look m mask_name.now ∷ []))) }
+{
+    match store.len(name.as_str()) {
+        Ok(Some(size)) => open_sized(alloc, store, name, starts_name, mask_name, size, rows),
+        Ok(None) => Err(TextFault::Missing),
+        Err(_) => Err(TextFault::Store),
+    }
+}
+
+/// The column, its text file having this size.
+fn open_sized<S: Store>(
+    alloc: Global,
+    store: &mut S,
+    name: &FileName,
+    starts_name: &FileName,
+    mask_name: &FileName,
+    size: u64,
+    rows: u32,
+) -> Result<TextRef, TextFault>
+    ensures cause { HasCause (S.faults store.old) (S.faults store.new) (IsErrOf result TextFault.Store) }
+    ensures opened { IfOk result (λ text. (text.name ≡ name.now) × (text.rows ≡ rows) × (length text.mask ≡ rows)) }
+    ensures stop { IfErr result (StopsOpeningText rows) }
+    ensures exact { IfSome (S.files store.old) (λ m. IsAnswer (opened_text result)
+        (and_mask (starts_in size rows (file_at m starts_name.now)) (masked (mask_in rows (file_at m mask_name.now))))) }
+    ensures files { SameFiles (S.files store.old) (S.files store.new) }
+    ensures reads { AddsOnly (λ look. IsWholeLook (S.files store.old) starts_name.now look ⊎ IsWholeLook (S.files store.old) mask_name.now look)
+        (S.reads store.old) (S.reads store.new) }
+    ensures once { OnOk result (IfSome (S.files store.old) (λ m. AddsReads (S.reads store.old) (S.reads store.new)
+        (λ added. added ≡ whole_look m starts_name.now ∷ whole_look m mask_name.now ∷ []))) }
+{
     let starts = read_starts(alloc, store, starts_name, size, rows)?;
-    let mask = match open_mask(alloc, store, mask_name, rows) {
-        Ok(mask) => mask,
-        Err(ColFault::Store) => return Err(TextFault::Store),
-        Err(ColFault::OutOfMemory) => return Err(TextFault::OutOfMemory),
-        Err(fault) => return Err(TextFault::Mask(fault)),
+    let mask = read_mask(alloc, store, mask_name, rows)?;
+    let Ok(name) = name.copy(alloc) else {
+        return Err(TextFault::OutOfMemory);
     };
-    match name.copy(alloc) {
-        Ok(name) => Ok(TextRef {
-            name,
-            rows,
-            mask,
-            starts,
-        }),
-        Err(_) => Err(TextFault::OutOfMemory),
+    Ok(TextRef {
+        name,
+        rows,
+        mask,
+        starts,
+    })
+}
+
+/// The mask of so many rows.
+fn read_mask<S: Store>(
+    alloc: Global,
+    store: &mut S,
+    name: &FileName,
+    rows: u32,
+) -> Result<Wah, TextFault>
+    ensures cause { HasCause (S.faults store.old) (S.faults store.new) (IsErrOf result TextFault.Store) }
+    ensures rows { IfOk result (λ mask. length mask ≡ rows) }
+    ensures stop { IfErr result (StopsMasked rows) }
+    ensures exact { IfSome (S.files store.old) (λ m. IsAnswer result (masked (mask_in rows (file_at m name.now)))) }
+    ensures files { SameFiles (S.files store.old) (S.files store.new) }
+    ensures reads { AddsOnly (IsWholeLook (S.files store.old) name.now) (S.reads store.old) (S.reads store.new) }
+    ensures once { OnOk result (IfSome (S.files store.old) (λ m. AddsRead (Some m) (S.reads store.old) (S.reads store.new) (whole_look m name.now))) }
+{
+    match open_mask(alloc, store, name, rows) {
+        Ok(mask) => Ok(mask),
+        Err(ColFault::Store) => Err(TextFault::Store),
+        Err(ColFault::OutOfMemory) => Err(TextFault::OutOfMemory),
+        Err(fault) => Err(TextFault::Mask(fault)),
     }
 }
 
@@ -80,7 +144,7 @@ fn read_starts<S: Store>(
     ensures counted { IfOk result (λ starts. length starts.items ≡ rows + 1) }
     ensures rising { IfOk result (λ starts. first_wrong starts.items ≡ None) }
     ensures stop { IfErr result (StopsStarts rows) }
-    ensures exact { IfSome (S.files store.old) (λ m. OpensStarts (listed result) (starts_in size rows (file_at m name.now))) }
+    ensures exact { IfSome (S.files store.old) (λ m. IsAnswer (listed result) (starts_in size rows (file_at m name.now))) }
     ensures files { SameFiles (S.files store.old) (S.files store.new) }
     ensures reads { AddsOnly (IsWholeLook (S.files store.old) name.now) (S.reads store.old) (S.reads store.new) }
     ensures once { OnOk result (IfSome (S.files store.old) (λ m. AddsRead (Some m) (S.reads store.old) (S.reads store.new) (whole_look m name.now))) }
@@ -95,7 +159,7 @@ fn read_starts<S: Store>(
 
 /// The starts that the bytes of a whole file spell.
 fn starts_of_bytes(alloc: Global, bytes: &[u8], size: u64, rows: u32) -> Result<Vec<u64>, TextFault>
-    ensures exact { OpensStarts (listed result) (starts_in size rows (Some bytes.now)) }
+    ensures exact { IsAnswer (listed result) (starts_in size rows (Some bytes.now)) }
     ensures counted { IfOk result (λ starts. length starts.items ≡ rows + 1) }
     ensures rising { IfOk result (λ starts. first_wrong starts.items ≡ None) }
     ensures stop { IfErr result (StopsStarts rows) }

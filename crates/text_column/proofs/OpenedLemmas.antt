@@ -1,11 +1,11 @@
 -- What opening and reading texts come to, step by step.
-use Rattle.std.proofs.Common.{◌≡◌, ◌⊎◌, inl, inr, ℕ, zero, suc, ◌+◌, ◌-◌, ◌*◌, ◌^◌, ◌<◌, ◌≤◌, ◌==◌, Bool, true, false, cond, List, [], ◌∷◌, ◌++◌, length, get_or, take, drop, Option, Some, None, IfSome, IfOk, Result, Ok, Err, unwrap_or, refl, sym, ap, subst, ◌∙◌, arith, length-drop}
+use Rattle.std.proofs.Common.{◌≡◌, ◌⊎◌, inl, inr, ℕ, zero, suc, ◌+◌, ◌-◌, ◌*◌, ◌^◌, ◌<◌, ◌≤◌, ◌==◌, Bool, true, false, cond, Vec, List, [], ◌∷◌, ◌++◌, length, get_or, take, drop, Option, Some, None, IfSome, IfOk, Result, Ok, Err, unwrap_or, refl, sym, ap, subst, ◌∙◌, arith, length-drop}
 use Rattle.std.proofs.lemmas.Bool.{eq-eqb, eqb-true}
 use Rattle.std.proofs.lemmas.List.{length-take-le}
 use Rattle.fb_outside.specs.Files.{Files, file_at, told_at, bytes_at}
 use Rattle.fb_outside.specs.Reads.{Look, AddsOnly}
 use Rattle.fb_outside.proofs.ReadLemmas.{AddsOnly-trans, AddsOnly-weaken}
-use Rattle.text_column.specs.OpenedTexts.{IsAnswer, unless_wrong, placed_in, starts_in, and_mask, with_starts, masked, text_in, parted_by, part_in, read_in}
+use Rattle.text_column.specs.OpenedTexts.{IsAnswer, listed, unless_wrong, placed_in, starts_in, and_mask, with_starts, masked, text_in, parted_by, part_in, read_in}
 use Rattle.text_column.specs.Texts.{text_file, starts_of, starts_bytes, starts_at, first_wrong, texts_at, starts_between, size_between}
 use Rattle.wah_words.specs.Bytes.{spelling}
 use Rattle.column_file.specs.Opening.{mask_in}
@@ -158,3 +158,15 @@ rows_read (Some m) name texts starts first end answered is told order within h =
     ∙ ap (λ b. Ok (texts_at rows b)) there ∙ ap (λ ts. Ok ts) (rows_parted texts first end order inside) in
     answer_ok answered (read_in want rows bytes) (take (end - first) (drop first texts))
     (subst (λ ss. IsAnswer answered (read_in (size_between ss first end) (starts_between ss first end) (bytes_at m name (get_or ss first 0) (size_between ss first end)))) is h) read
+
+pub ok_listed : {X A : Type 0} (answered : Result (Vec X A) TextFault) (P : List X → Type 0) → IfOk (listed answered) P → IfOk answered (λ items. P items.items)
+ok_listed (Ok items) P h = h
+ok_listed (Err fault) P h = tt
+
+-- the rows of a file that ends where the last start says have their bytes in it
+pub rows_have : (starts bytes : List ℕ) (first end rows : ℕ) → first_wrong starts ≡ None → length starts ≡ rows + 1 → first ≤ end → end ≤ rows
+    → length bytes ≡ get_or starts rows 0 → get_or starts first 0 + size_between starts first end ≤ length bytes
+rows_have starts bytes first end rows rising count order within size =
+    let one = starts_order starts first end rising order (omega (arith, count, within)) in
+    let two = starts_order starts end rows rising within (omega (arith, count)) in
+    omega (arith, one, two, size)

@@ -415,3 +415,8 @@ pub front_fits : (texts : List (List ℕ)) (k : ℕ) → length (text_file (take
 front_fits texts zero = omega arith
 front_fits [] (suc k) = omega arith
 front_fits (t ∷ ts) (suc k) = omega (arith, length-append t (text_file (take k ts)), length-append t (text_file ts), front_fits ts k)
+
+pub few_texts : (starts bytes : List ℕ) → length starts < 2 → texts_at starts bytes ≡ []
+few_texts [] bytes h = refl
+few_texts (s ∷ []) bytes h = refl
+few_texts (s ∷ next ∷ starts) bytes h = absurd (omega arith)

@@ -17,7 +17,7 @@ pub fn text_bytes(alloc: Global, texts: &[Label]) -> Result<(Vec<u8>, Vec<u8>), 
     push_u64(&mut starts, 0)?;
     for text in texts {
         bytes.extend_from_slice(text.bytes())?;
-        push_u64(&mut starts, bytes.len() as u64)?;
+        push_u64(&mut starts, bytes.as_slice().len() as u64)?;
     }
     Ok((bytes, starts))
 }

@@ -72,11 +72,12 @@ fn texts_between<S: Store>(
         (record { name = text.now.name; offset = slice_index text.now.starts.items first; room = size_between text.now.starts.items first end })) }
     ensures none { size_between text.now.starts.items first end ≡ 0 → S.reads store.new ≡ S.reads store.old }
 {
-    let at = text.starts[first as usize];
-    let size = text.starts[end as usize] - at;
+    let starts = text.starts.as_slice();
+    let at = starts[first as usize];
+    let size = starts[end as usize] - at;
     let bytes = read_part(alloc, store, &text.name, at, size)?;
-    let starts = &text.starts[first as usize..end as usize + 1];
-    match texts_of(alloc, starts, &bytes) {
+    let between = &starts[first as usize..end as usize + 1];
+    match texts_of(alloc, between, &bytes) {
         Ok(texts) => Ok(texts),
         Err(_) => Err(TextFault::OutOfMemory),
     }

@@ -18,5 +18,5 @@ loop-text-preserved c =
     record {
       text = all;
       starts = c.in_ok-push_u64-2.ensures.ok ∙ ap (λ b. b ++ to_le_bytes w64 c.len.result) c.loop-text.invariant.starts
-          ∙ starts_pushed c.args.texts.now c.loop-text.text-index c.text-item.result c.len.result c.loop-text-test.true c.text-item.is (c.len.ensures ∙ ap length all);
+          ∙ starts_pushed c.args.texts.now c.loop-text.text-index c.text-item.result c.len.result c.loop-text-test.true c.text-item.is (c.len.ensures ∙ ap length (c.as_slice.ensures.value ∙ all));
     }

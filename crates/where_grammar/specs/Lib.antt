@@ -1,4 +1,3 @@
-pub mod Like
 pub mod Holds
 pub mod Tokens
 pub mod Language

@@ -1,0 +1,21 @@
+use Rattle.std.proofs.Common.{◌≡◌, ◌≤◌, ◌+◌, ◌-◌, get_or, take, drop, length, subst, sym, ap, ◌∙◌, arith}
+use Rattle.text_column.specs.Texts.{AreWithin, size_between, starts_between}
+use Rattle.text_column.proofs.TextLemmas.{starts_order, within_between}
+use Rattle.text_column.proofs.text_reads.texts_between.Goals as goal
+
+pub overflow_sub-size : goal.overflow_sub-size
+overflow_sub-size g c =
+    let within = c.args.text.now.counted in
+    let rows = c.requires.rows in
+    rw c.as_slice-starts.ensures.value
+    (starts_order c.args.text.now.starts.items c.args.first c.args.end c.args.text.now.rising c.requires.order (omega (arith, within, rows)))
+
+pub texts_of-requires : goal.texts_of-requires
+texts_of-requires g c =
+    let within = c.args.text.now.counted in
+    let rows = c.requires.rows in
+    let value = c.as_slice-starts.ensures.value in
+    let size : length c.in_ok-bytes.bytes.items ≡ size_between c.args.text.now.starts.items c.args.first c.args.end =
+    c.in_ok-bytes.ensures.size ∙ ap (λ ss. get_or ss c.args.end 0 - get_or ss c.args.first 0) value in
+    rw (value, c.deref.ensures.value)
+    (within_between c.args.text.now.starts.items c.args.first c.args.end c.in_ok-bytes.bytes.items c.args.text.now.rising c.requires.order (omega (arith, within, rows)) size)

@@ -1,0 +1,5 @@
+pub mod Words
+pub mod DictionaryFile
+pub mod OpenedDictionary
+pub mod Texts
+pub mod OpenedTexts

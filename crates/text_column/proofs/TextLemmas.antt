@@ -420,3 +420,14 @@ pub few_texts : (starts bytes : List ℕ) → length starts < 2 → texts_at sta
 few_texts [] bytes h = refl
 few_texts (s ∷ []) bytes h = refl
 few_texts (s ∷ next ∷ starts) bytes h = absurd (omega arith)
+
+length-texts_at : (start : ℕ) (starts bytes : List ℕ) → length (texts_at (start ∷ starts) bytes) ≡ length starts
+length-texts_at start [] bytes = refl
+length-texts_at start (next ∷ starts) bytes = ap suc (length-texts_at next starts (drop (next - start) bytes))
+
+-- a text for each of the rows
+pub rows_counted : (starts bytes : List ℕ) (first end : ℕ) → first_wrong starts ≡ None → first ≤ end → end < length starts
+    → length (texts_at (starts_between starts first end) bytes) ≡ end - first
+rows_counted starts bytes first end rising order within =
+    let between = rows_between starts first end rising order within in
+    ap (λ ss. length (texts_at ss bytes)) between.is ∙ length-texts_at (get_or starts first 0) between.rest bytes ∙ between.few

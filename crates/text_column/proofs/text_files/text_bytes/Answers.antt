@@ -1,4 +1,4 @@
-use Rattle.std.proofs.Common.{◌++◌, ap, sym, ◌∙◌, length, take, ◌+◌}
+use Rattle.std.proofs.Common.{◌++◌, ap, sym, ◌∙◌, length, take}
 use Rattle.std.specs.Int.{w64, to_le_bytes}
 use Rattle.text_column.specs.Texts.{text_file}
 use Rattle.text_column.proofs.TextLemmas.{text_pushed, starts_pushed, first_start}

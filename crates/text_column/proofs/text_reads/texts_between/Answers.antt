@@ -1,5 +1,5 @@
-use Rattle.std.proofs.Common.{◌≡◌, ◌≤◌, ◌+◌, ◌-◌, get_or, take, drop, length, subst, sym, ap, ◌∙◌, arith}
-use Rattle.text_column.specs.Texts.{AreWithin, size_between, starts_between, texts_at}
+use Rattle.std.proofs.Common.{◌≡◌, ◌-◌, get_or, length, ap, ◌∙◌, arith}
+use Rattle.text_column.specs.Texts.{size_between, starts_between, texts_at}
 use Rattle.text_column.proofs.TextLemmas.{rows_counted, starts_order, within_between}
 use Rattle.text_column.proofs.text_reads.texts_between.Goals as goal
 

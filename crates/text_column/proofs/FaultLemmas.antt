@@ -1,16 +1,16 @@
 -- What reading a dictionary's bytes has found: the words, or the first fault.
-use Rattle.std.proofs.Common.{◌≡◌, ◌⊎◌, inl, inr, ℕ, zero, suc, ◌+◌, ◌<◌, ◌≤◌, Bool, true, false, cond, List, [], ◌∷◌, ◌++◌, length, take, drop, Result, Ok, Err, IfOk, nat_lt, refl, sym, ap, subst, ◌∙◌, arith, length-append, append_assoc, append-nil}
+use Rattle.std.proofs.Common.{◌≡◌, inl, inr, ℕ, zero, suc, ◌+◌, ◌<◌, ◌≤◌, true, false, cond, List, [], ◌∷◌, ◌++◌, length, drop, Result, Ok, Err, IfOk, nat_lt, refl, sym, ap, subst, ◌∙◌, arith, length-append, append_assoc, append-nil}
 use mir.Syntax.{w32}
 use Rattle.std.specs.Int.{to_le_bytes}
 use Rattle.std.proofs.lemmas.Bool.{ltb-true, ltb-false}
 use Rattle.text_column.specs.Words.{IsDictionary}
-use Rattle.text_column.specs.DictionaryFile.{Begins, BeginsMore, IsFaultOf, word_bytes, words_bytes, dictionary_bytes, count_at, next_in, to_its_end, and_then, words_in, counted_in, dictionary_in}
+use Rattle.text_column.specs.DictionaryFile.{Begins, IsFaultOf, word_bytes, words_bytes, dictionary_bytes, count_at, and_then, words_in, counted_in, dictionary_in}
 use Rattle.text_column.specs.OpenedDictionary.{OpensWords}
 use Rattle.text_column.specs.declared.fault.DicFault.{DicFault}
-use Rattle.text_column.specs.declared.fault.DicFault.TheVariants.{Short, TooMany, Empty, Repeated, Trailing}
+use Rattle.text_column.specs.declared.fault.DicFault.TheVariants.{Short, TooMany}
 use Rattle.text_column.proofs.NumberLemmas.{AreBytes, AreBytes-drop, wide_32, number_spelled}
 use Rattle.text_column.proofs.WordLemmas.{no_words, dictionary-append}
-use Rattle.text_column.proofs.DictionaryLemmas.{Next, next_word}
+use Rattle.text_column.proofs.DictionaryLemmas.{next_word}
 use Rattle.text_column.proofs.DictionaryLemmas.Next.{Cut, None_in, Again, New}
 
 -- what the words behind these are, or what is wrong with them

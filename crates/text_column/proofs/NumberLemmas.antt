@@ -1,5 +1,5 @@
 -- Numbers of a fixed width and their bytes, both ways.
-use Rattle.std.proofs.Common.{◌≡◌, ℕ, ◌+◌, ◌-◌, ◌^◌, ◌<◌, ◌≤◌, inl, inr, List, [], ◌∷◌, ◌++◌, length, get_or, take, drop, take-append-drop, length-take, lit<, refl, sym, ap, subst, ◌∙◌, arith}
+use Rattle.std.proofs.Common.{◌≡◌, ℕ, ◌+◌, ◌^◌, ◌<◌, ◌≤◌, inl, inr, List, ◌++◌, length, get_or, take, drop, take-append-drop, length-take, lit<, refl, sym, ap, ◌∙◌, arith}
 use mir.Syntax.{Width, w16, w32, w64}
 use mir.Val.{bits}
 use Rattle.std.specs.Int.{to_le_bytes, from_le_bytes}

@@ -1,11 +1,11 @@
 -- What opening and reading texts come to, step by step.
-use Rattle.std.proofs.Common.{◌≡◌, ◌⊎◌, inl, inr, ℕ, zero, suc, ◌+◌, ◌-◌, ◌*◌, ◌^◌, ◌<◌, ◌≤◌, ◌==◌, Bool, true, false, cond, Vec, List, [], ◌∷◌, ◌++◌, length, get_or, take, drop, Option, Some, None, IfSome, IfOk, Result, Ok, Err, unwrap_or, refl, sym, ap, subst, ◌∙◌, arith, length-drop}
+use Rattle.std.proofs.Common.{◌≡◌, ◌⊎◌, inl, inr, ℕ, zero, suc, ◌+◌, ◌-◌, ◌*◌, ◌^◌, ◌<◌, ◌≤◌, ◌==◌, Bool, true, false, cond, Vec, List, [], length, get_or, take, drop, Option, Some, None, IfSome, IfOk, Result, Ok, Err, unwrap_or, refl, sym, ap, subst, ◌∙◌, arith, length-drop}
 use Rattle.std.proofs.lemmas.Bool.{eq-eqb, eqb-true}
 use Rattle.std.proofs.lemmas.List.{length-take-le}
 use Rattle.fb_outside.specs.Files.{Files, file_at, told_at, bytes_at}
 use Rattle.fb_outside.specs.Reads.{Look, AddsOnly}
 use Rattle.fb_outside.proofs.ReadLemmas.{AddsOnly-trans, AddsOnly-weaken}
-use Rattle.text_column.specs.OpenedTexts.{IsAnswer, listed, unless_wrong, placed_in, starts_in, and_mask, with_starts, masked, text_in, parted_by, part_in, read_in}
+use Rattle.text_column.specs.OpenedTexts.{IsAnswer, listed, unless_wrong, placed_in, starts_in, and_mask, with_starts, masked, text_in, parted_by, read_in}
 use Rattle.text_column.specs.Texts.{text_file, starts_of, starts_bytes, starts_at, first_wrong, texts_at, starts_between, size_between}
 use Rattle.wah_words.specs.Bytes.{spelling}
 use Rattle.column_file.specs.Opening.{mask_in}

@@ -1,13 +1,11 @@
 -- Texts, their starts, and the bytes of both.
-use Rattle.std.proofs.Common.{◌≡◌, ℕ, zero, suc, ◌+◌, ◌-◌, ◌*◌, ◌^◌, ◌<◌, ◌≤◌, ◌==◌, ◌/◌, Bool, true, false, cond, List, [], ◌∷◌, ◌++◌, length, map, get_or, take, drop, take-append-drop, Option, Some, None, IfSome, option_map, nat_lt, refl, sym, ap, subst, ◌∙◌, arith, length-append, length-drop, length-take, append_assoc, append-nil, add-zero}
+use Rattle.std.proofs.Common.{◌≡◌, ℕ, zero, suc, ◌+◌, ◌-◌, ◌*◌, ◌^◌, ◌<◌, ◌≤◌, ◌==◌, Bool, true, false, cond, List, [], ◌∷◌, ◌++◌, length, get_or, take, drop, take-append-drop, Option, Some, None, option_map, nat_lt, refl, sym, ap, subst, ◌∙◌, arith, length-append, length-drop, append_assoc, append-nil, add-zero}
 use mir.Syntax.{w64}
 use Rattle.std.specs.Int.{to_le_bytes, from_le_bytes}
-use Rattle.std.specs.Simd.{first_chunks}
 use Rattle.std.specs.List.{AllByRecursion}
-use Rattle.std.proofs.Math.Seq.{take-append_seam, drop-append_seam, take-suc, drop-cons, drop-nil}
-use Rattle.std.proofs.Math.Dec.{eqb-suc-zero}
-use Rattle.std.proofs.lemmas.Bool.{lt-ltb, le-ltb, ltb-true, ltb-false, eqb-true}
-use Rattle.std.proofs.lemmas.List.{length-take-le, take_all, drop-drop, take-append-le}
+use Rattle.std.proofs.Math.Seq.{take-append_seam, drop-append_seam, take-suc}
+use Rattle.std.proofs.lemmas.Bool.{le-ltb, ltb-false, eqb-true}
+use Rattle.std.proofs.lemmas.List.{length-take-le, take_all, drop-drop}
 use Rattle.text_column.specs.Texts.{text_file, starts_from, starts_of, starts_bytes, starts_at, first_below, first_wrong, texts_at, AreWithin, starts_between, size_between}
 use Rattle.text_column.proofs.NumberLemmas.{AreBytes, AreBytes-drop, wide_64, number_front, number_rest, number_spelled}
 
@@ -420,3 +418,14 @@ pub few_texts : (starts bytes : List ℕ) → length starts < 2 → texts_at sta
 few_texts [] bytes h = refl
 few_texts (s ∷ []) bytes h = refl
 few_texts (s ∷ next ∷ starts) bytes h = absurd (omega arith)
+
+length-texts_at : (start : ℕ) (starts bytes : List ℕ) → length (texts_at (start ∷ starts) bytes) ≡ length starts
+length-texts_at start [] bytes = refl
+length-texts_at start (next ∷ starts) bytes = ap suc (length-texts_at next starts (drop (next - start) bytes))
+
+-- a text for each of the rows
+pub rows_counted : (starts bytes : List ℕ) (first end : ℕ) → first_wrong starts ≡ None → first ≤ end → end < length starts
+    → length (texts_at (starts_between starts first end) bytes) ≡ end - first
+rows_counted starts bytes first end rising order within =
+    let between = rows_between starts first end rising order within in
+    ap (λ ss. length (texts_at ss bytes)) between.is ∙ length-texts_at (get_or starts first 0) between.rest bytes ∙ between.few

@@ -26,6 +26,7 @@ pub fn read_texts<S: Store>(
     requires rows { end ≤ text.now.rows }
     ensures cause { HasCause (S.faults store.old) (S.faults store.new) (IsErrOf result TextFault.Store) }
     ensures stop { IfErr result StopsReadingTexts }
+    ensures count { IfOk result (λ texts. length texts.items ≡ end - first) }
 
     // The texts are those whose bytes stand there, or some of the bytes are missing.
     ensures exact { IfSome (S.files store.old) (λ m. IsAnswer (listed result)
@@ -44,8 +45,9 @@ pub fn read_texts<S: Store>(
     // One read of just these bytes, or of none.
     ensures reads { AddsOnly (λ look. look ≡ record { name = text.now.name; offset = slice_index text.now.starts.items first; room = size_between text.now.starts.items first end })
         (S.reads store.old) (S.reads store.new) }
-    ensures once { OnOk result (0 < size_between text.now.starts.items first end → AddsRead (S.files store.old) (S.reads store.old) (S.reads store.new)
-        (record { name = text.now.name; offset = slice_index text.now.starts.items first; room = size_between text.now.starts.items first end })) }
+    ensures once { (IsErrOf result TextFault.OutOfMemory → ⊥) → 0 < size_between text.now.starts.items first end
+        → AddsRead (S.files store.old) (S.reads store.old) (S.reads store.new)
+        (record { name = text.now.name; offset = slice_index text.now.starts.items first; room = size_between text.now.starts.items first end }) }
     ensures none { size_between text.now.starts.items first end ≡ 0 → S.reads store.new ≡ S.reads store.old }
 {
     texts_between(alloc, store, text, first, end)
@@ -62,14 +64,16 @@ fn texts_between<S: Store>(
     requires rows { end ≤ text.now.rows }
     ensures cause { HasCause (S.faults store.old) (S.faults store.new) (IsErrOf result TextFault.Store) }
     ensures stop { IfErr result StopsReadingTexts }
+    ensures count { IfOk result (λ texts. length texts.items ≡ end - first) }
     ensures exact { IfSome (S.files store.old) (λ m. IsAnswer (listed result)
         (read_in (size_between text.now.starts.items first end) (starts_between text.now.starts.items first end)
         (bytes_at m text.now.name (slice_index text.now.starts.items first) (size_between text.now.starts.items first end)))) }
     ensures files { SameFiles (S.files store.old) (S.files store.new) }
     ensures reads { AddsOnly (λ look. look ≡ record { name = text.now.name; offset = slice_index text.now.starts.items first; room = size_between text.now.starts.items first end })
         (S.reads store.old) (S.reads store.new) }
-    ensures once { OnOk result (0 < size_between text.now.starts.items first end → AddsRead (S.files store.old) (S.reads store.old) (S.reads store.new)
-        (record { name = text.now.name; offset = slice_index text.now.starts.items first; room = size_between text.now.starts.items first end })) }
+    ensures once { (IsErrOf result TextFault.OutOfMemory → ⊥) → 0 < size_between text.now.starts.items first end
+        → AddsRead (S.files store.old) (S.reads store.old) (S.reads store.new)
+        (record { name = text.now.name; offset = slice_index text.now.starts.items first; room = size_between text.now.starts.items first end }) }
     ensures none { size_between text.now.starts.items first end ≡ 0 → S.reads store.new ≡ S.reads store.old }
 {
     let starts = text.starts.as_slice();
@@ -97,8 +101,8 @@ fn read_part<S: Store>(
     ensures exact { IfSome (S.files store.old) (λ m. IsAnswer (listed result) (part_in size (bytes_at m name.now at size))) }
     ensures files { SameFiles (S.files store.old) (S.files store.new) }
     ensures reads { AddsOnly (λ look. look ≡ record { name = name.now; offset = at; room = size }) (S.reads store.old) (S.reads store.new) }
-    ensures once { OnOk result (0 < size → AddsRead (S.files store.old) (S.reads store.old) (S.reads store.new)
-        (record { name = name.now; offset = at; room = size })) }
+    ensures once { (IsErrOf result TextFault.OutOfMemory → ⊥) → 0 < size → AddsRead (S.files store.old) (S.reads store.old) (S.reads store.new)
+        (record { name = name.now; offset = at; room = size }) }
     ensures none { size ≡ 0 → S.reads store.new ≡ S.reads store.old }
 {
     if size == 0 {

@@ -1,4 +1,4 @@
-use Rattle.std.proofs.Common.{◌++◌, ap, sym, ◌∙◌, length, take, ◌+◌}
+use Rattle.std.proofs.Common.{◌++◌, ap, sym, ◌∙◌, length, take}
 use Rattle.std.specs.Int.{w64, to_le_bytes}
 use Rattle.text_column.specs.Texts.{text_file}
 use Rattle.text_column.proofs.TextLemmas.{text_pushed, starts_pushed, first_start}
@@ -17,6 +17,6 @@ loop-text-preserved c =
     ∙ text_pushed c.args.texts.now c.loop-text.text-index c.text-item.result c.loop-text-test.true c.text-item.is in
     record {
       text = all;
-      starts = c.in_ok-push_u64-2.ensures.ok ∙ ap (λ b. b ++ to_le_bytes w64 c.len.result) c.loop-text.invariant.starts
-          ∙ starts_pushed c.args.texts.now c.loop-text.text-index c.text-item.result c.len.result c.loop-text-test.true c.text-item.is (c.len.ensures ∙ ap length (c.as_slice.ensures.value ∙ all));
+      starts = c.in_ok-push_u64-2.ensures.ok ∙ ap (λ b. b ++ to_le_bytes w64 (length c.as_slice.result.now)) c.loop-text.invariant.starts
+          ∙ starts_pushed c.args.texts.now c.loop-text.text-index c.text-item.result (length c.as_slice.result.now) c.loop-text-test.true c.text-item.is (ap length (c.as_slice.ensures.value ∙ all));
     }

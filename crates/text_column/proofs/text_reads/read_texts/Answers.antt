@@ -1,4 +1,4 @@
-use Rattle.std.proofs.Common.{◌≡◌, ◌+◌, ◌-◌, ◌≤◌, ap, drop, length, get_or, take, arith}
+use Rattle.std.proofs.Common.{◌≡◌, ◌-◌, ap, drop, get_or, take, arith}
 use Rattle.text_column.specs.OpenedTexts.{listed}
 use Rattle.text_column.specs.Texts.{size_between, starts_between}
 use Rattle.text_column.proofs.OpenedLemmas.{none_missing, ok_listed, rows_have, rows_read}

@@ -1,4 +1,4 @@
-use Rattle.std.proofs.Common.{◌≡◌, map, take, vec_len}
+use Rattle.std.proofs.Common.{◌≡◌, map, take}
 use Rattle.std.specs.Int.{w64, from_le_bytes}
 use Rattle.text_column.proofs.texts.numbers_of.Given as goal
 

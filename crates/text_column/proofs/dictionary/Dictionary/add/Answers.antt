@@ -1,5 +1,5 @@
-use Rattle.std.proofs.Common.{◌≡◌, ◌+◌, rules, ap, sym, subst, ◌∙◌, map, Some}
-use Rattle.text_column.specs.Words.{IsDictionary, code_in, with_word}
+use Rattle.std.proofs.Common.{◌+◌, rules, ap, sym, subst, ◌∙◌, Some}
+use Rattle.text_column.specs.Words.{IsDictionary, code_in}
 use Rattle.text_column.proofs.WordLemmas.{kept_words, kept_place, kept_any, code_seen, no_code, dictionary_with}
 use Rattle.text_column.proofs.dictionary.Dictionary.add.Goals as goal
 

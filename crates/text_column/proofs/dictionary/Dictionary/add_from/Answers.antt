@@ -1,4 +1,4 @@
-use Rattle.std.proofs.Common.{◌≡◌, ◌+◌, ◌<◌, ap, sym, subst, ◌∙◌, Some, length, arith}
+use Rattle.std.proofs.Common.{◌≡◌, ◌+◌, ◌<◌, ap, sym, ◌∙◌, Some, length, arith}
 use Rattle.text_column.specs.DictionaryFile.{word_at}
 use Rattle.text_column.specs.Words.{code_in, with_word}
 use Rattle.text_column.proofs.DictionaryLemmas.{repeated_next}

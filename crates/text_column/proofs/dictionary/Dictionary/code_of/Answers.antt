@@ -1,5 +1,4 @@
 use Rattle.std.proofs.Common.{◌+◌, ap, sym, ◌∙◌, option_map}
-use Rattle.std.specs.List.{position}
 use Rattle.std.specs.Str.{bytes_eq}
 use Rattle.text_column.specs.Words.{code_in}
 use Rattle.text_column.proofs.WordLemmas.{position-map}

@@ -1,5 +1,3 @@
-use Rattle.std.proofs.Common.{map, subst, sym}
-use Rattle.text_column.specs.Words.{IsDictionary}
 use Rattle.text_column.proofs.WordLemmas.{no_words}
 use Rattle.text_column.proofs.dictionary.Dictionary.make.Goals as goal
 

@@ -1,7 +1,7 @@
 -- The longest front whose elements pass a test.
 use Rattle.std.proofs.Common.{◌≡◌, ℕ, suc, ◌+◌, Bool, true, false, cond, ◌&&◌, List, [], ◌∷◌, ◌++◌, length, take, drop, refl, arith}
 use Rattle.std.specs.List.{prefix_len, list_all}
-use Rattle.index_spec.specs.Tokens.{StopsAt}
+use Rattle.lexing.specs.Blanks.{StopsAt}
 
 at_test : (p : ℕ → Bool) (b : ℕ) (bs : List ℕ) (test : Bool) → p b ≡ test → (list_all p bs ≡ true → list_all p (b ∷ bs) ≡ test)
 at_test p b bs true e all = rw (e, all) refl
@@ -14,6 +14,20 @@ and_parts false y e = cc
 
 pub and_both : (x y : Bool) → x ≡ true → y ≡ true → (x && y) ≡ true
 and_both x y e f = rw (e, f) refl
+
+-- what holds of each element of a list holds of each of both parts
+pub all_append : (p : ℕ → Bool) (xs ys : List ℕ) → list_all p (xs ++ ys) ≡ true → (list_all p xs ≡ true) × (list_all p ys ≡ true)
+all_append p [] ys e = (refl, e)
+all_append p (x ∷ xs) ys e =
+    let parts = and_parts (p x) (list_all p (xs ++ ys)) e in
+    let more = all_append p xs ys parts.1 in
+    (and_both (p x) (list_all p xs) parts.0 more.0, more.1)
+
+pub append_all : (p : ℕ → Bool) (xs ys : List ℕ) → list_all p xs ≡ true → list_all p ys ≡ true → list_all p (xs ++ ys) ≡ true
+append_all p [] ys e f = f
+append_all p (x ∷ xs) ys e f =
+    let parts = and_parts (p x) (list_all p xs) e in
+    and_both (p x) (list_all p (xs ++ ys)) parts.0 (append_all p xs ys parts.1 f)
 
 front_step : (p : ℕ → Bool) (b : ℕ) (bs : List ℕ) (test : Bool) → p b ≡ test → list_all p (take (prefix_len p bs) bs) ≡ true → list_all p (take (cond test (1 + prefix_len p bs) 0) (b ∷ bs)) ≡ true
 front_step p b bs true e all = let n : 1 + prefix_len p bs ≡ suc (prefix_len p bs) = omega arith in rw (n, e, all) refl

@@ -1,6 +1,6 @@
 -- A token has at least one byte.
-use Rattle.std.proofs.Common.{◌≡◌, ℕ, ◌-◌, ◌≤◌, ◌<◌, Bool, true, false, cond, List, [], ◌∷◌, length, take, drop, ap, arith, eqb, length-drop, inl, inr}
-use Rattle.std.specs.Prelude.{Option, Some}
+use Rattle.std.proofs.Common.{◌≡◌, ℕ, ◌-◌, ◌≤◌, ◌<◌, Bool, true, false, cond, List, [], ◌∷◌, length, take, drop, refl, ap, ◌∙◌, arith, eqb, length-drop, inl, inr}
+use Rattle.std.specs.Prelude.{Option, Some, None, Ok}
 use Rattle.std.specs.Option.{option_map}
 use Rattle.std.specs.List.{prefix_len}
 use Rattle.std.specs.Char.{is_ascii_digit}
@@ -9,8 +9,8 @@ use Rattle.std.proofs.lemmas.Bool.Decides.{nat_tests}
 use Rattle.index_spec.specs.declared.token.Token.{Token}
 use Rattle.index_spec.specs.declared.token.Token.TheVariants as t
 use Rattle.index_spec.specs.Words.{word_of}
-use Rattle.index_spec.specs.Tokens.{is_letter, in_word, sign_of, magnitude, signed, word_at, number_at, token_at}
-use Rattle.index_spec.proofs.Cases.{chosen, guarded, mapped}
+use Rattle.index_spec.specs.Tokens.{is_letter, in_word, sign_of, magnitude, signed, word_at, number_at, token_at, told, reader}
+use Rattle.lexing.proofs.Cases.{chosen, guarded, mapped}
 
 dropped_less : (n : ℕ) (text rest : List ℕ) → eqb n 0 ≡ false → n ≤ length text → drop n text ≡ rest → length rest < length text
 dropped_less n text rest some within e =
@@ -41,7 +41,7 @@ sign_shorter b bs found e =
     let same : length bs ≡ length found.1 = ap (λ f. length f.1) h.1.1 in
     omega arith
 
-pub token_at_shorter : (text : List ℕ) (found : Token × List ℕ) → token_at text ≡ Some found → length found.1 < length text
+token_at_shorter : (text : List ℕ) (found : Token × List ℕ) → token_at text ≡ Some found → length found.1 < length text
 unfolding token_at
 token_at_shorter [] found e = cc
 token_at_shorter (b ∷ bs) found e =
@@ -58,3 +58,12 @@ token_at_shorter (b ∷ bs) found e =
         ]
       ]
     ]
+
+told_shorter : (text : List ℕ) (o : Option (Token × List ℕ)) (found : Token × List ℕ) → token_at text ≡ o → told o ≡ Ok found → length found.1 < length text
+told_shorter text None found is e = absurd cc
+told_shorter text (Some f) found is e =
+    let same : f ≡ found = cc in
+    token_at_shorter text found (is ∙ ap Some same)
+
+pub reader-shorter : (at : ℕ) (text : List ℕ) (found : Token × List ℕ) → reader at text ≡ Ok found → length found.1 < length text
+reader-shorter at text found e = told_shorter text (token_at text) found refl e

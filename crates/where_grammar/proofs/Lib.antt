@@ -1,13 +1,8 @@
-pub mod Cases
-pub mod Runs
 pub mod Numbers
 pub mod Boundaries
-pub mod Shorter
-pub mod Lexing
 pub mod Cuts
-pub mod Spelled
 pub mod Quotes
 pub mod Signs
 pub mod Reread
-pub mod Laws
 pub mod Parts
+pub mod TokenLaws

@@ -13,7 +13,7 @@ use Rattle.where_grammar.specs.declared.clause.Clause.TheVariants.{rolls-Or, rol
 use Rattle.where_grammar.specs.declared.clause.Clause.TheOpen.{Clause-F}
 use Rattle.where_grammar.specs.declared.clause.Clause.TheFolds.{fold-Clause, fold-roll-Clause}
 use Rattle.where_grammar.specs.Holds.{cell_named, number_passes, atom_holds, odd_many, holds_by_parts, holds}
-use Rattle.where_grammar.specs.Language.{less_than}
+
 
 any_mapped : {X : Type 0} (f : X → Bool) (xs : List X) → list_any (λ b. b) (map f xs) ≡ list_any f xs
 any_mapped f [] = refl

@@ -5,10 +5,11 @@ use Rattle.std.specs.Char.{is_ascii_digit}
 use Rattle.where_grammar.specs.declared.clause.Op.TheVariants as op
 use Rattle.where_grammar.specs.declared.token.Sign.{Sign}
 use Rattle.where_grammar.specs.declared.token.Sign.TheVariants as sign
-use Rattle.where_grammar.specs.Tokens.{is_blank, is_quote, begins_word, double_sign, single_sign, sign_of}
+use Rattle.lexing.specs.Blanks.{is_blank}
+use Rattle.where_grammar.specs.Tokens.{is_quote, begins_word, double_sign, single_sign, sign_of}
 use Rattle.where_grammar.specs.Language.{is_less}
-use Rattle.where_grammar.proofs.Cases.{chosen}
-use Rattle.where_grammar.proofs.Runs.{and_parts}
+use Rattle.lexing.proofs.Cases.{chosen}
+use Rattle.lexing.proofs.Runs.{and_parts}
 
 step : (P : Sign → Type 0) (test : Bool) (here : Sign) (others : Option Sign) (s : Sign) → cond test (Some here) others ≡ Some s → (test ≡ true → P here) → (others ≡ Some s → P s) → P s
 step P test here others s e this more =

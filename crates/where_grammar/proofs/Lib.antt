@@ -6,3 +6,4 @@ pub mod Signs
 pub mod Reread
 pub mod Parts
 pub mod TokenLaws
+pub mod TextLaws

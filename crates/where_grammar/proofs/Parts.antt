@@ -48,6 +48,3 @@ holds-xor parts columns cells =
     let step = holds_by_parts columns cells in
     ap (fold-Clause Bool step) (sym (rolls-Xor parts)) ∙ fold-roll-Clause Bool step (Clause-F.Xor parts)
 
--- `name < value` holds of a record whose number in that column is below
-pub holds-less_than : (name : List ℕ) (value : ℤ) (columns : List Column) (cells : List Cell) → holds (less_than name value) columns cells ≡ number_passes (λ n. int_lt n value) (cell_named columns cells name)
-holds-less_than name value columns cells = holds-one (atom.Compare name op.Less value) columns cells

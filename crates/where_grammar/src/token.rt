@@ -1,6 +1,6 @@
 //! The tokens of a query's text.
 
-ghost use Rattle.std.specs.Prelude.{◌≡◌, ◌≤◌, ◌^◌, ◌-◌, true, List, if◌then◌else◌, length, min, Some, None, Ok, Err, IfOk, IfErr};
+ghost use Rattle.std.specs.Prelude.{◌≡◌, ◌≤◌, ◌^◌, ◌-◌, true, List, if◌then◌else◌, length, min, Some, None, Ok, Err, IfOk, IfErr, IfSome};
 ghost use Rattle.std.specs.Option.{option_map};
 ghost use Rattle.std.specs.List.{prefix_len, list_all};
 ghost use Rattle.std.specs.Char.{is_ascii_digit};
@@ -10,7 +10,7 @@ ghost use Rattle.where_grammar.specs.declared.clause.QueryKind.{QueryKind};
 ghost use Rattle.where_grammar.specs.declared.token.Placed.{Placed};
 ghost use Rattle.where_grammar.specs.Language.{Gives, HasTokens, IsFaultOf, NoTokens, read_tokens};
 ghost use Rattle.where_grammar.specs.Shorter.{reader-shorter};
-ghost use Rattle.where_grammar.specs.Tokens.{begins_word, double_sign, fits_128, in_word, number_at, reader, seen, sign_at, signed, single_sign, text_at, token_at, unquoted, within_limits, word_at};
+ghost use Rattle.where_grammar.specs.Tokens.{begins_word, double_sign, excess, fits_128, in_word, number_at, reader, seen, sign_at, signed, single_sign, text_at, token_at, unquoted, within_limits, word_at};
 
 use crate::clause::{ClauseFault, Op, QueryKind, bad};
 use crate::nesting::is_deep;
@@ -128,7 +128,8 @@ fn lowered(alloc: Global, bytes: &[u8]) -> Result<Label, AllocError>
 /// The word at the front, in lower case, and what follows it.
 #[tactic(auto, unfolding(crate::specs::Tokens::word_at))]
 fn word_at(alloc: Global, text: &[u8]) -> Result<(Token, &[u8]), AllocError>
-    ensures { IfOk result (λ found. (found.0, found.1.now) ≡ word_at text.now) }
+    ensures value { IfOk result (λ found. (found.0, found.1.now) ≡ word_at text.now) }
+    ensures within { IfOk result (λ found. excess found.0 ≡ None) }
 {
     let (front, rest) = text.split_at(word_len(text));
     Ok((Token::Word(lowered(alloc, front)?), rest))
@@ -202,7 +203,8 @@ fn single_sign(byte: u8) -> Option<Sign>
 /// The longest sign at the front, and what follows it.
 #[tactic(auto, unfolding(crate::specs::Tokens::sign_at))]
 fn sign_at(text: &[u8]) -> Option<(Token, &[u8])>
-    ensures { option_map (λ found. (found.0, found.1.now)) result ≡ sign_at text.now }
+    ensures value { option_map (λ found. (found.0, found.1.now)) result ≡ sign_at text.now }
+    ensures within { IfSome result (λ found. excess found.0 ≡ None) }
 {
     if let [first, second, rest @ ..] = text {
         if let Some(sign) = double_sign(*first, *second) {

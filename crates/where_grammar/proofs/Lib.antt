@@ -7,3 +7,7 @@ pub mod Reread
 pub mod Parts
 pub mod TokenLaws
 pub mod TextLaws
+pub mod TokenTests
+pub mod Atoms
+pub mod Clauses
+pub mod Readings

@@ -160,10 +160,7 @@ name_begun None tokens = None
 name_begun (Some name) tokens = named_at name tokens
 
 abbrev pub atom_from : Token → At Atom
-atom_from (t.Word word) tokens = if bytes_are_exists word then exists_at tokens else name_begun (column_name word) tokens
-  where
-    bytes_are_exists : List ℕ → Bool
-    bytes_are_exists word = is_word (codes "exists") (t.Word word)
+atom_from (t.Word word) tokens = if is_word (codes "exists") (t.Word word) then exists_at tokens else name_begun (column_name word) tokens
 atom_from (t.Number low) tokens = numbered_at low tokens
 atom_from (t.Text text) tokens = None
 atom_from (t.Sign s) tokens = None

@@ -14,7 +14,7 @@ use Rattle.where_grammar.specs.Nesting.{is_close, is_not, is_open}
 use Rattle.where_grammar.specs.Grammar.{AreParts, IsClause, IsJoined, IsNots, IsPart, alone, ands, closing, condition, enclosed, group, joins, last, more, negated, nots, opening, several, xors}
 use Rattle.where_grammar.specs.Parsing.{At, after, atom_from, clause_of, clause_within, enclosed_at, grouped, joined_at, not_times, nots_at, part_at, parts_behind, parts_within, unit_at, whole}
 use Rattle.where_grammar.proofs.TokenTests.{after_told, sign_told}
-use Rattle.where_grammar.proofs.Atoms.{atom_from_told}
+use Rattle.where_grammar.proofs.Conditions.{atom_from_told}
 
 -- a front that is of this form, and what follows it
 pub record Cut {A : Type 0} (IsForm : A → List Token → Type 0) (tokens : List Token) (found : A × List Token) : Type 0 where

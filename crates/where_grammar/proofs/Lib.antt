@@ -8,6 +8,11 @@ pub mod Parts
 pub mod TokenLaws
 pub mod TextLaws
 pub mod TokenTests
-pub mod Atoms
+pub mod Conditions
 pub mod Clauses
 pub mod Readings
+pub mod Lists
+pub mod Joints
+pub mod ClauseLaws
+pub mod Pieces
+pub mod Writings

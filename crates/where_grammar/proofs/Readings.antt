@@ -18,7 +18,7 @@ use Rattle.where_grammar.specs.Nesting.{is_close, is_crowded, is_not, is_open, i
 use Rattle.where_grammar.specs.Grammar.{AreParts, IsAtom, IsClause, IsJoined, IsNots, IsPart, alone, ands, behind_commas, between, closing, compared, condition, doubled, enclosed, exists, group, joins, keyword, last, like, more, negated, nots, numbers, opening, other, same, several, texts, turned_round, xors}
 use Rattle.where_grammar.specs.Parsing.{At, after, atom_at, clause_of, clause_within, grouped, joined_at, nots_at, op_in, part_at, parts_behind, parts_within, taken, unit_at, whole}
 use Rattle.where_grammar.proofs.TokenTests.{not_keyword, not_none, sign_told, word_told}
-use Rattle.where_grammar.proofs.Atoms.{NoOp, atom_again}
+use Rattle.where_grammar.proofs.Conditions.{NoOp, atom_again}
 use Rattle.where_grammar.proofs.Clauses.{Cut, Finds, clause_told, denied, nots_none, nots_step, part_told}
 
 -- ---- joints
@@ -315,6 +315,9 @@ never_crowded : (tokens : List Token) (room : ℕ) → length tokens ≤ room �
 never_crowded [] room few = refl
 never_crowded (token ∷ tokens) room few = crowd_step token tokens room (is_open token) (is_close token) refl refl (omega arith) (never_crowded tokens)
 
+same_clause : (c d : Clause) (rest : List Token) → ◌≡◌ {A = Option (Clause × List Token)} (Some (c, rest)) (Some (d, rest)) → c ≡ d
+same_clause c d rest e = let same : ◌≡◌ {A = Clause × List Token} (c, rest) (d, rest) = cc in ap (λ f. f.0) same
+
 -- tokens are at most one clause
 pub one_clause : (tokens : List Token) (c d : Clause) → IsClause c tokens → IsClause d tokens → c ≡ d
 one_clause tokens c d is also =
@@ -323,4 +326,4 @@ one_clause tokens c d is also =
     let free : is_crowded room (tokens ++ []) ≡ false = ap (is_crowded room) cut ∙ never_crowded tokens room (omega arith) in
     let first = joined_again join.Or c tokens is room [] tt free in
     let second = joined_again join.Or d tokens also room [] tt free in
-    cc
+    same_clause c d [] (sym first ∙ second)

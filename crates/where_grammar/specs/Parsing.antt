@@ -1,6 +1,7 @@
 -- The clause that tokens spell, as a function.
 use Rattle.std.specs.Prelude.{◌≡◌, ℕ, zero, suc, ◌-◌, ◌<◌, nat_le, nat_lt, Bool, true, false, ◌&&◌, if◌then◌else◌, List, [], ◌∷◌, ◌++◌, length, drop, map, Option, Some, None, ℤ, codes, count_by}
-use Rattle.std.specs.List.{prefix_len, take_while}
+use Rattle.std.proofs.Common.{Bor}
+use Rattle.std.specs.List.{prefix_len}
 use Rattle.std.specs.Option.{option_map, option_and_then}
 use Rattle.fb_types.specs.Names.{column_name}
 use Rattle.where_grammar.specs.declared.clause.Op.{Op}
@@ -22,6 +23,14 @@ use Rattle.where_grammar.specs.Grammar.{group, joins, turned}
 -- what stands at the front, and what follows it
 abbrev pub At : Type 0 → Type 0
 At A = List Token → Option (A × List Token)
+
+abbrev pub bare : List Placed → List Token
+bare placed = map (λ p. p.token) placed
+
+-- what a call finds, as contracts see it
+abbrev pub seen_at : {A : Type 0} → Option (A × Bor (List Placed)) → Option (A × List Token)
+seen_at None = None
+seen_at (Some found) = Some (found.0, bare found.1.now)
 
 -- ---- one token
 
@@ -97,17 +106,21 @@ items_within part (suc n) (token ∷ tokens) =
 abbrev pub items_at : {A : Type 0} → (Token → Option A) → At (List A)
 items_at part tokens = items_within part (length tokens) tokens
 
-abbrev pub numbers_at : List ℕ → ℤ → At Atom
-numbers_at name first tokens = option_map (λ more. (atom.Numbers name (first ∷ more.0), more.1)) (items_at number_in tokens)
+-- the items from the first one on
+abbrev pub items_from : {A : Type 0} → (Token → Option A) → At (List A)
+items_from part tokens = option_and_then (λ item. option_map (λ more. (item.0 ∷ more.0, more.1)) (items_at part item.1)) (taken part tokens)
 
-abbrev pub texts_at : List ℕ → List ℕ → At Atom
-texts_at name first tokens = option_map (λ more. (atom.Texts name (first ∷ more.0), more.1)) (items_at text_in tokens)
+abbrev pub numbers_at : List ℕ → At Atom
+numbers_at name tokens = option_map (λ list. (atom.Numbers name list.0, list.1)) (items_from number_in tokens)
+
+abbrev pub texts_at : List ℕ → At Atom
+texts_at name tokens = option_map (λ list. (atom.Texts name list.0, list.1)) (items_from text_in tokens)
 
 -- behind `name in (`, by the first item
 abbrev pub list_from : List ℕ → Token → At Atom
 list_from name (t.Word word) tokens = None
-list_from name (t.Number first) tokens = numbers_at name first tokens
-list_from name (t.Text first) tokens = texts_at name first tokens
+list_from name (t.Number first) tokens = numbers_at name (t.Number first ∷ tokens)
+list_from name (t.Text first) tokens = texts_at name (t.Text first ∷ tokens)
 list_from name (t.Sign s) tokens = None
 
 abbrev pub list_begun : List ℕ → At Atom
@@ -229,9 +242,6 @@ unfoldable pub clause_of : List Token → Option Clause
 clause_of tokens = whole (clause_within 65 tokens)
 
 -- ---- lists
-
-abbrev pub bare : List Placed → List Token
-bare placed = map (λ p. p.token) placed
 
 -- how many commas stand before the first `)`
 abbrev pub commas_before_close : List Token → ℕ

@@ -1,7 +1,9 @@
 //! The conditions of queries: clauses from their text, and when a clause holds of a record.
 #![tactic(auto)]
 
+mod atoms;
 mod clause;
+mod fronts;
 mod nesting;
 mod parsing;
 mod printing;
@@ -13,7 +15,7 @@ mod token;
 mod truth;
 
 pub use clause::{Atom, Clause, ClauseFault, ClauseRead, Op, QueryKind};
-pub use parsing::{after_where, clause_of, parse_where};
+pub use parsing::{after_where, clause_of, parse_where, the_grammar_is_unambiguous};
 pub use printing::print_where;
 
 pub use token::{Placed, Sign, Token, tokens};

@@ -13,7 +13,7 @@ use Rattle.where_grammar.specs.declared.token.Token.{Token}
 use Rattle.where_grammar.specs.declared.token.Token.TheVariants as t
 use Rattle.where_grammar.specs.Nesting.{is_close, is_open, is_sign, is_word}
 use Rattle.where_grammar.specs.Grammar.{IsAtom, behind_commas, closing, comma, compared, turned_round, doubled, between, numbers, same, other, texts, like, exists, keyword, opening, operator, turned}
-use Rattle.where_grammar.specs.Parsing.{after, atom_at, atom_from, between_at, compared_at, compared_token, doubled_by, exists_at, items_at, items_within, like_at, list_at, list_begun, list_from, name_begun, name_in, named_at, named_by, number_in, numbered_at, numbers_at, op_in, taken, text_compared, text_in, texts_at, turned_at, worded}
+use Rattle.where_grammar.specs.Parsing.{after, atom_at, atom_from, between_at, compared_at, compared_token, doubled_by, exists_at, items_at, items_from, items_within, like_at, list_at, list_begun, list_from, name_begun, name_in, named_at, named_by, number_in, numbered_at, numbers_at, op_in, taken, text_compared, text_in, texts_at, turned_at, worded}
 use Rattle.where_grammar.proofs.TokenTests.{IsNamed, IsPassed, IsTaken, after_told, name_told, no_exists, number_told, op_told, sign_told, taken_told, text_told, word_told}
 
 -- ---- what the function finds is a condition
@@ -102,15 +102,19 @@ closed front items tokens rest a e is = record { middle = items ++ (closing ∷ 
 list_from_told : (word name : List ℕ) (first : Token) (tokens : List Token) (found : Atom × List Token) → column_name word ≡ Some name → list_from name first tokens ≡ Some found → Completes (t.Word word ∷ keyword (codes "in") ∷ opening ∷ first ∷ []) tokens found
 list_from_told word name (t.Word w) tokens found named e = absurd cc
 list_from_told word name (t.Number first) tokens found named e =
-    let h = mapped (λ more. (atom.Numbers name (first ∷ more.0), more.1)) (items_at number_in tokens) found e in
-    let cut = items_told number_in t.Number number_told (length tokens) tokens h.0 h.1.0 in
+    let h = mapped (λ list. (atom.Numbers name list.0, list.1)) (items_from number_in (t.Number first ∷ tokens)) found e in
+    let g = mapped (λ more. (first ∷ more.0, more.1)) (items_at number_in tokens) h.0 h.1.0 in
+    let cut = items_told number_in t.Number number_told (length tokens) tokens g.0 g.1.0 in
     let front = t.Word word ∷ keyword (codes "in") ∷ opening ∷ t.Number first ∷ [] in
-    subst (Completes front tokens) h.1.1 (closed front (behind_commas (map t.Number h.0.0)) tokens h.0.1 (atom.Numbers name (first ∷ h.0.0)) cut (numbers word name first h.0.0 named))
+    let is : Completes front tokens (atom.Numbers name (first ∷ g.0.0), g.0.1) = closed front (behind_commas (map t.Number g.0.0)) tokens g.0.1 (atom.Numbers name (first ∷ g.0.0)) cut (numbers word name first g.0.0 named) in
+    subst (Completes front tokens) (ap (λ list. (atom.Numbers name list.0, list.1)) g.1.1 ∙ h.1.1) is
 list_from_told word name (t.Text first) tokens found named e =
-    let h = mapped (λ more. (atom.Texts name (first ∷ more.0), more.1)) (items_at text_in tokens) found e in
-    let cut = items_told text_in t.Text text_told (length tokens) tokens h.0 h.1.0 in
+    let h = mapped (λ list. (atom.Texts name list.0, list.1)) (items_from text_in (t.Text first ∷ tokens)) found e in
+    let g = mapped (λ more. (first ∷ more.0, more.1)) (items_at text_in tokens) h.0 h.1.0 in
+    let cut = items_told text_in t.Text text_told (length tokens) tokens g.0 g.1.0 in
     let front = t.Word word ∷ keyword (codes "in") ∷ opening ∷ t.Text first ∷ [] in
-    subst (Completes front tokens) h.1.1 (closed front (behind_commas (map t.Text h.0.0)) tokens h.0.1 (atom.Texts name (first ∷ h.0.0)) cut (texts word name first h.0.0 named))
+    let is : Completes front tokens (atom.Texts name (first ∷ g.0.0), g.0.1) = closed front (behind_commas (map t.Text g.0.0)) tokens g.0.1 (atom.Texts name (first ∷ g.0.0)) cut (texts word name first g.0.0 named) in
+    subst (Completes front tokens) (ap (λ list. (atom.Texts name list.0, list.1)) g.1.1 ∙ h.1.1) is
 list_from_told word name (t.Sign s) tokens found named e = absurd cc
 
 list_begun_told : (word name : List ℕ) (tokens : List Token) (found : Atom × List Token) → column_name word ≡ Some name → list_begun name tokens ≡ Some found → Completes (t.Word word ∷ keyword (codes "in") ∷ opening ∷ []) tokens found

@@ -16,3 +16,6 @@ pub mod Joints
 pub mod ClauseLaws
 pub mod Pieces
 pub mod Writings
+pub mod Longs
+pub mod Prints
+pub mod PrintLaws

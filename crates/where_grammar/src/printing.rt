@@ -93,10 +93,8 @@ fn push_atom(alloc: Global, out: &mut Items<Token>, atom: &Atom) -> Result<(), A
         }
         Atom::Between { name, low, high } => {
             push_word(alloc, out, name.bytes())?;
-            push_word(alloc, out, b"between")?;
-            out.push(Token::Number(*low))?;
-            push_word(alloc, out, b"and")?;
-            out.push(Token::Number(*high))
+            push_bound(alloc, out, b"between", *low)?;
+            push_bound(alloc, out, b"and", *high)
         }
         Atom::Numbers { name, list } => push_list(alloc, out, name.bytes(), list.as_slice()),
         Atom::Same { name, text } => push_compared(alloc, out, name.bytes(), Op::Equal, text),
@@ -114,6 +112,19 @@ fn push_atom(alloc: Global, out: &mut Items<Token>, atom: &Atom) -> Result<(), A
             out.push(Token::Sign(Sign::Close))
         }
     }
+}
+
+/// A bound of a range, behind its word.
+fn push_bound(
+    alloc: Global,
+    out: &mut Items<Token>,
+    word: &[u8],
+    bound: i128,
+) -> Result<(), AllocError>
+    ensures { OnOk result (out.new ≡ out.old ++ Token.Word word.now ∷ Token.Number bound ∷ []) }
+{
+    push_word(alloc, out, word)?;
+    out.push(Token::Number(bound))
 }
 
 fn push_compared(
@@ -187,26 +198,13 @@ fn push_parts(
         [] => Ok(()),
         [first, rest @ ..] => {
             push_part(alloc, out, first)?;
-            push_more_parts(alloc, out, word, rest)
+            for part in rest {
+                push_word(alloc, out, word)?;
+                push_part(alloc, out, part)?;
+            }
+            Ok(())
         }
     }
-}
-
-/// The tokens of parts with the word before each.
-#[cycle(printing)]
-fn push_more_parts(
-    alloc: Global,
-    out: &mut Items<Token>,
-    word: &[u8],
-    parts: &[Clause],
-) -> Result<(), AllocError>
-    ensures { OnOk result (out.new ≡ out.old ++ more_joined word.now (map piece_of parts.now)) }
-{
-    for part in parts {
-        push_word(alloc, out, word)?;
-        push_part(alloc, out, part)?;
-    }
-    Ok(())
 }
 
 fn op_text(op: Op) -> &'static str
@@ -262,7 +260,8 @@ fn push_token(alloc: Global, out: &mut Vec<u8>, token: &Token) -> Result<(), All
         Token::Text(text) => {
             out.push(b'"')?;
             push_doubled(out, text.bytes())?;
-            out.push(b'"')
+            out.push(b'"')?;
+            Ok(())
         }
         Token::Sign(sign) => out.extend_from_slice(sign_text(*sign).as_bytes()),
     }

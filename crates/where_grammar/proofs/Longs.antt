@@ -87,19 +87,21 @@ list_long make plain no_close no_comma word name first xs rest named =
     let commas : commas_before_close (items ++ (closing ∷ rest)) ≡ length xs = items_commas make no_close no_comma xs rest in
     let inside : has_long (items ++ (closing ∷ rest)) ≡ has_long rest = items_long make plain xs (closing ∷ rest) in
     let n : nat_le 4096 (length xs) ≡ nat_lt 4096 (length (first ∷ xs)) = many (length xs) in
-    not_in (t.Word word) _ (name_not_in word name named) ∙ rw (cut, a, b, w, commas, inside, n) refl
+    let tail = t.Word (codes "in") ∷ opening ∷ make first ∷ ((items ++ closing ∷ []) ++ rest) in
+    let listed : has_long tail ≡ (nat_lt 4096 (length (first ∷ xs)) || has_long rest) = rw (cut, a, b, w, commas, inside, n) refl in
+    not_in (t.Word word) tail (name_not_in word name named) ∙ listed
 
 scan_atom : (a : Atom) (tokens : List Token) → IsAtom a tokens → (rest : List Token) → has_long (tokens ++ rest) ≡ (has_long_list a || has_long rest)
-scan_atom _ _ (compared word name by value named) rest = not_in (t.Word word) _ (name_not_in word name named)
-scan_atom _ _ (turned_round word name by value named) rest = not_in (t.Word word) rest (name_not_in word name named)
-scan_atom _ _ (doubled word name left right low high named) rest = not_in (t.Word word) _ (name_not_in word name named)
-scan_atom _ _ (between word name low high named) rest = not_in (t.Word word) _ (name_not_in word name named)
+scan_atom _ _ (compared word name by value named) rest = rw (name_not_in word name named) refl
+scan_atom _ _ (turned_round word name by value named) rest = rw (name_not_in word name named) refl
+scan_atom _ _ (doubled word name left right low high named) rest = rw (name_not_in word name named) refl
+scan_atom _ _ (between word name low high named) rest = rw (name_not_in word name named) refl
 scan_atom _ _ (numbers word name first xs named) rest = list_long t.Number (λ x. refl) (λ x. refl) (λ x. refl) word name first xs rest named
-scan_atom _ _ (same word name text named) rest = not_in (t.Word word) _ (name_not_in word name named)
-scan_atom _ _ (other word name text named) rest = not_in (t.Word word) _ (name_not_in word name named)
+scan_atom _ _ (same word name text named) rest = rw (name_not_in word name named) refl
+scan_atom _ _ (other word name text named) rest = rw (name_not_in word name named) refl
 scan_atom _ _ (texts word name first xs named) rest = list_long t.Text (λ x. refl) (λ x. refl) (λ x. refl) word name first xs rest named
-scan_atom _ _ (like word name pattern named) rest = not_in (t.Word word) _ (name_not_in word name named)
-scan_atom _ _ (exists word name named) rest = not_in (t.Word word) _ (name_not_in word name named)
+scan_atom _ _ (like word name pattern named) rest = rw (name_not_in word name named) refl
+scan_atom _ _ (exists word name named) rest = rw (name_not_in word name named) refl
 
 -- ---- clauses
 
@@ -191,8 +193,8 @@ long_is (p ∷ ps) f =
     let plain : is_word (codes "in") p.token ≡ false = ap (is_word (codes "in")) (sym same) ∙ f.plain in
     long_behind_is p ps ∙ sym (not_in p.token (bare ps) plain)
   where
-    first_is : (a : Token) (more : List Token) (b : Token) (bs : List Token) → a ∷ more ≡ b ∷ bs → b ≡ a
-    first_is a more b bs e = cc
+    first_is : (a : Token) (xs : List Token) (b : Token) (bs : List Token) → a ∷ xs ≡ b ∷ bs → b ≡ a
+    first_is a xs b bs e = cc
 
 pub long_clause : (c : Clause) (ps : List Placed) → IsJoined join.Or c (bare ps) → is_some (long_of ps) ≡ lists_too_much c
 long_clause c ps is = long_is ps (front_joined join.Or c (bare ps) is) ∙ (ap has_long (sym (append-nil (bare ps))) ∙ (scan_joined join.Or c (bare ps) is [] ∙ or_false (lists_too_much c)))

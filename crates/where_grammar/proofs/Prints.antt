@@ -143,16 +143,16 @@ list_good name first items plain is fit good =
 prints_atom : (a : Atom) (tokens : List Token) → IsAtom a tokens → list_all is_fit tokens ≡ true → PrintsAtom a
 prints_atom _ _ (compared word name by value named) fit =
     let n = named_is word name named in
-    let parts = fit_parts (t.Number value) [] (fit_parts (operator by) _ (fit_parts (t.Word word) _ fit).1).1 in
+    let parts = fit_parts (t.Number value) [] fit in
     record { spelled = compared name name by value n.named; good = word_first name _ n.plain (good_first (operator by) _ tt refl (number_good value [] parts.0 none_good)) }
 prints_atom _ _ (turned_round word name by value named) fit =
     let n = named_is word name named in
-    let parts = fit_parts (t.Number value) _ fit in
+    let parts = fit_parts (t.Number value) [] fit in
     record { spelled = compared name name (turned by) value n.named; good = word_first name _ n.plain (good_first (operator (turned by)) _ tt refl (number_good value [] parts.0 none_good)) }
 prints_atom _ _ (doubled word name left right low high named) fit =
     let n = named_is word name named in
-    let first = fit_parts (t.Number low) _ fit in
-    let second = fit_parts (t.Number high) [] (fit_parts (operator right) _ (fit_parts (t.Word word) _ (fit_parts (operator left) _ first.1).1).1).1 in
+    let first = fit_parts (t.Number low) (t.Number high ∷ []) fit in
+    let second = fit_parts (t.Number high) [] first.1 in
     let is : IsAtom (atom.Double name (turned (turned (turned left))) low right high) (atom_tokens (atom.Double name (turned left) low right high)) = doubled name name (turned (turned left)) right low high n.named in
     record {
       spelled = subst (λ o. IsAtom (atom.Double name o low right high) (atom_tokens (atom.Double name (turned left) low right high))) (turned-turned (turned left)) is;
@@ -160,14 +160,14 @@ prints_atom _ _ (doubled word name left right low high named) fit =
     }
 prints_atom _ _ (between word name low high named) fit =
     let n = named_is word name named in
-    let first = fit_parts (t.Number low) _ (fit_parts (keyword (codes "between")) _ (fit_parts (t.Word word) _ fit).1).1 in
-    let second = fit_parts (t.Number high) [] (fit_parts (keyword (codes "and")) _ first.1).1 in
+    let first = fit_parts (t.Number low) (t.Number high ∷ []) fit in
+    let second = fit_parts (t.Number high) [] first.1 in
     record { spelled = between name name low high n.named;
       good = word_first name _ n.plain (word_first (codes "between") _ (refl, refl) (number_good low _ first.0 (word_first (codes "and") _ (refl, refl) (number_good high [] second.0 none_good)))) }
 prints_atom _ _ (numbers word name first xs named) fit =
     let n = named_is word name named in
     let items = behind_commas (map t.Number xs) in
-    let here = fit_parts (t.Number first) _ (fit_parts opening _ (fit_parts (keyword (codes "in")) _ (fit_parts (t.Word word) _ fit).1).1).1 in
+    let here = fit_parts (t.Number first) (items ++ closing ∷ []) fit in
     let more = fit_append items (closing ∷ []) here.1 in
     record { spelled = numbers name name first xs n.named; good = list_good name (t.Number first) items n.plain here.0 here.0 (numbers_good xs more.0) }
 prints_atom _ _ (same word name text named) fit = let n = named_is word name named in record { spelled = same name name text n.named; good = word_first name _ n.plain (good_first (operator op.Equal) _ tt refl (good_first (t.Text text) [] tt refl none_good)) }
@@ -270,7 +270,7 @@ mutual
   prints_nots _ _ (negated c token tokens e is) fit =
       let part = prints_nots c tokens is (fit_parts token tokens fit).1 in
       by_unit (clause.Not c) (keyword (codes "not") ∷ as_part (piece_of c)) (piece_of-not c) (word_first (codes "not") _ (refl, refl) part.part) (negated c (keyword (codes "not")) (as_part (piece_of c)) refl part.unit)
-  prints_nots _ _ (enclosed c tokens is) fit = prints_joined join.Or c tokens is (fit_append tokens (closing ∷ []) (fit_parts opening _ fit).1).0
+  prints_nots _ _ (enclosed c tokens is) fit = prints_joined join.Or c tokens is (fit_append tokens (closing ∷ []) fit).0
   prints_nots _ _ (condition a tokens is) fit =
       let printed = prints_atom a tokens is fit in
       by_unit (clause.One a) (atom_tokens a) (piece_of-one a) printed.good (condition a (atom_tokens a) printed.spelled)

@@ -1,5 +1,5 @@
 -- Written tokens are read as themselves.
-use Rattle.std.proofs.Common.{◌≡◌, ℕ, zero, suc, ◌+◌, ◌-◌, ◌^◌, ◌≤◌, ◌<◌, ◌||◌, Bool, true, false, cond, List, [], ◌∷◌, ◌++◌, length, get_or, map, refl, sym, ap, subst, ◌∙◌, inl, inr, ◌⊎◌, arith, ℤ, pos, negsuc}
+use Rattle.std.proofs.Common.{◌≡◌, ℕ, zero, suc, ◌+◌, ◌-◌, ◌^◌, ◌≤◌, ◌<◌, ◌||◌, Bool, true, false, cond, List, [], ◌∷◌, ◌++◌, length, get_or, map, refl, sym, ap, subst, ◌∙◌, inl, inr, ◌⊎◌, arith, ℤ, pos, negsuc, neg_ℤ}
 use Rattle.std.specs.Prelude.{Option, Some, None, codes, ◌&&◌}
 use Rattle.std.specs.List.{list_all, list_any}
 use Rattle.std.specs.Char.{is_ascii_digit}
@@ -61,7 +61,7 @@ number_written (pos n) fits =
 number_written (negsuc n) fits =
     let small : suc n < 10 ^ 64 = grind (arith, nat_tests, ints) in
     let d = digits_are (suc n) small in
-    whole_of-minus (decimal (suc n)) d.all d.some ∙ ?
+    whole_of-minus (decimal (suc n)) d.all d.some ∙ ap (λ k. Some (neg_ℤ (pos k))) d.value
 
 op_written : (by : Op) → sign_of (op_text by) ≡ Some (sign.Op by)
 op_written op.Less = refl

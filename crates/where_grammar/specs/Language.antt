@@ -1,8 +1,8 @@
 -- Which clause a text spells, and what is said of a text that spells none.
-use Rattle.std.specs.Prelude.{◌≡◌, ◌≤◌, ◌<◌, ⊤, ℕ, true, false, nat_lt, if◌then◌else◌, List, length, drop, take, Option, Some, None, Result, Ok, Err, codes}
-use Rattle.std.specs.List.{prefix_len}
-use Rattle.std.specs.Str.{str_eq_ignore_ascii_case}
-use Rattle.lexing.specs.Blanks.{is_blank}
+use Rattle.std.specs.Prelude.{◌≡◌, ◌≤◌, ◌<◌, ⊤, ℕ, true, false, nat_lt, if◌then◌else◌, List, ◌++◌, length, drop, take, Option, Some, None, Result, Ok, Err, codes}
+use Rattle.std.specs.List.{list_all, prefix_len}
+use Rattle.std.specs.Str.{str_eq_ignore_ascii_case, str_to_ascii_lowercase}
+use Rattle.lexing.specs.Blanks.{StopsAt, is_blank}
 use Rattle.where_grammar.specs.declared.clause.Clause.{Clause}
 use Rattle.where_grammar.specs.declared.clause.QueryKind.{QueryKind}
 use Rattle.where_grammar.specs.declared.clause.QueryKind.TheVariants as kind
@@ -93,6 +93,17 @@ IsNoClause tokens (fault.Bad k) = ⊥
 IsNoClause tokens fault.OutOfMemory = ⊤
 
 -- ---- the text of a query
+
+-- blanks, the word `where` in either case, and the rest, which begins with no letter, digit or `_`
+pub record FollowsWhere (text rest : List ℕ) : Type 0 where
+  pub blanks : List ℕ
+  pub word : List ℕ
+  pub cut : text ≡ blanks ++ (word ++ rest)
+  pub all_blank : list_all is_blank blanks ≡ true
+  pub is_where : str_to_ascii_lowercase word ≡ codes "where"
+  pub ends : StopsAt in_word rest
+
+-- the same, as a function
 
 -- what follows the word that is at the front, where that word is `where`
 abbrev pub behind_where : List ℕ → Option (List ℕ)

@@ -1,12 +1,12 @@
 //! Clauses from their text.
 
-ghost use Rattle.std.specs.Prelude.{◌≡◌, false, List, Ok, Err, IfOk, IfErr};
+ghost use Rattle.std.specs.Prelude.{◌≡◌, false, ℕ, List, Some, Ok, Err, IfOk, IfErr, IfSome};
 ghost use Rattle.std.specs.Option.{option_map};
 ghost use Rattle.where_grammar.specs.declared.clause.Clause.{Clause};
 ghost use Rattle.where_grammar.specs.declared.clause.QueryKind.{QueryKind};
 ghost use Rattle.where_grammar.specs.declared.token.Token.{Token};
 ghost use Rattle.where_grammar.specs.Grammar.{IsClause, group, joins};
-ghost use Rattle.where_grammar.specs.Language.{Gives, IsFaultOf, IsNoClause, NoClause, SpellsClause, after_where, clause_read, read_where};
+ghost use Rattle.where_grammar.specs.Language.{FollowsWhere, Gives, IsFaultOf, IsNoClause, NoClause, SpellsClause, after_where, clause_read, read_where};
 ghost use Rattle.where_grammar.specs.Nesting.{is_crowded};
 ghost use Rattle.where_grammar.specs.Parsing.{after, bare, clause_of, clause_within, commas_before_close, enclosed_at, is_long, joined_at, long_of, not_times, nots_at, part_at, parts_behind, seen_at, unit_at};
 
@@ -300,10 +300,8 @@ pub fn the_grammar_is_unambiguous()
     ensures { (tokens : List Token) (c d : Clause) → IsClause c tokens → IsClause d tokens → c ≡ d }
 {}
 
-/// What follows the word `where`, in either case, with which a query begins behind blanks; None where it begins
-/// with another word or with none.
 #[tactic(auto, unfolding(crate::specs::Language::after_where))]
-pub fn after_where(text: &str) -> Option<&str>
+fn behind_where(text: &str) -> Option<&str>
     ensures { option_map (λ rest. rest.now) result ≡ after_where text.now }
 {
     let (_, query) = text.split_at(blanks_len(text.as_bytes()));
@@ -313,4 +311,15 @@ pub fn after_where(text: &str) -> Option<&str>
     } else {
         None
     }
+}
+
+/// What follows the word `where`, in either case, with which a query begins behind blanks; None where it begins
+/// with another word or with none.
+pub fn after_where(text: &str) -> Option<&str>
+    ensures found { IfSome result (λ rest. FollowsWhere text.now rest.now) }
+    ensures only { (rest : List ℕ) → FollowsWhere text.now rest → option_map (λ found. found.now) result ≡ Some rest }
+
+    ensures exact { option_map (λ rest. rest.now) result ≡ after_where text.now }
+{
+    behind_where(text)
 }

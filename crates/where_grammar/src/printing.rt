@@ -1,8 +1,8 @@
 //! The one printed form of a clause.
 
-ghost use Rattle.std.specs.Prelude.{◌≡◌, ◌++◌, true, [], ◌∷◌, map, IfOk, OnOk};
+ghost use Rattle.std.specs.Prelude.{◌≡◌, ◌++◌, true, [], ◌∷◌, codes, map, IfOk, OnOk};
 ghost use Rattle.where_grammar.specs.declared.token.Token.{Token};
-ghost use Rattle.where_grammar.specs.Grammar.{behind_commas, operator};
+ghost use Rattle.where_grammar.specs.Grammar.{behind_commas, keyword, operator};
 ghost use Rattle.where_grammar.specs.Language.{read_where};
 ghost use Rattle.where_grammar.specs.Printed.{IsGiven, as_part, atom_tokens, clause_text, clause_tokens, is_tight, joined, list_tokens, more_joined, op_text, piece_of, reread, sign_text, token_text, with_commas, written};
 ghost use Rattle.where_grammar.specs.Tokens.{doubled};
@@ -93,8 +93,7 @@ fn push_atom(alloc: Global, out: &mut Items<Token>, atom: &Atom) -> Result<(), A
         }
         Atom::Between { name, low, high } => {
             push_word(alloc, out, name.bytes())?;
-            push_bound(alloc, out, b"between", *low)?;
-            push_bound(alloc, out, b"and", *high)
+            push_range(alloc, out, *low, *high)
         }
         Atom::Numbers { name, list } => push_list(alloc, out, name.bytes(), list.as_slice()),
         Atom::Same { name, text } => push_compared(alloc, out, name.bytes(), Op::Equal, text),
@@ -125,6 +124,19 @@ fn push_bound(
 {
     push_word(alloc, out, word)?;
     out.push(Token::Number(bound))
+}
+
+/// Both bounds of a range.
+fn push_range(
+    alloc: Global,
+    out: &mut Items<Token>,
+    low: i128,
+    high: i128,
+) -> Result<(), AllocError>
+    ensures { OnOk result (out.new ≡ out.old ++ keyword (codes "between") ∷ Token.Number low ∷ keyword (codes "and") ∷ Token.Number high ∷ []) }
+{
+    push_bound(alloc, out, b"between", low)?;
+    push_bound(alloc, out, b"and", high)
 }
 
 fn push_compared(

@@ -1,5 +1,5 @@
 -- Conditions, by the grammar and by the function.
-use Rattle.std.proofs.Common.{◌≡◌, ℕ, zero, suc, ◌≤◌, Bool, true, false, cond, List, [], ◌∷◌, ◌++◌, length, map, refl, sym, ap, subst, ◌∙◌, inl, inr, append_assoc, arith, ℤ}
+use Rattle.std.proofs.Common.{◌≡◌, ℕ, zero, suc, ◌≤◌, cond, List, [], ◌∷◌, ◌++◌, length, map, refl, sym, ap, subst, ◌∙◌, inl, inr, append_assoc, arith, ℤ}
 use Rattle.std.specs.Prelude.{Option, Some, None, codes}
 use Rattle.std.specs.Option.{option_map, option_and_then}
 use Rattle.fb_types.specs.Names.{column_name}
@@ -13,8 +13,8 @@ use Rattle.where_grammar.specs.declared.token.Token.{Token}
 use Rattle.where_grammar.specs.declared.token.Token.TheVariants as t
 use Rattle.where_grammar.specs.Nesting.{is_close, is_open, is_sign, is_word}
 use Rattle.where_grammar.specs.Grammar.{IsAtom, behind_commas, closing, comma, compared, turned_round, doubled, between, numbers, same, other, texts, like, exists, keyword, opening, operator, turned}
-use Rattle.where_grammar.specs.Parsing.{after, atom_at, atom_from, between_at, compared_at, compared_token, doubled_by, exists_at, items_at, items_from, items_within, like_at, list_at, list_begun, list_from, name_begun, name_in, named_at, named_by, number_in, numbered_at, numbers_at, op_in, taken, text_compared, text_in, texts_at, turned_at, worded}
-use Rattle.where_grammar.proofs.TokenTests.{IsNamed, IsPassed, IsTaken, after_told, name_told, no_exists, number_told, op_told, sign_told, taken_told, text_told, word_told}
+use Rattle.where_grammar.specs.Parsing.{after, atom_at, atom_from, between_at, compared_at, compared_token, doubled_by, exists_at, items_at, items_from, items_within, like_at, list_at, list_begun, list_from, name_begun, name_in, named_at, named_by, number_in, numbered_at, op_in, taken, text_compared, text_in, turned_at, worded}
+use Rattle.where_grammar.proofs.TokenTests.{after_told, name_told, no_exists, number_told, op_told, sign_told, taken_told, text_told, word_told}
 
 -- ---- what the function finds is a condition
 

@@ -1,6 +1,6 @@
 -- Long lists, by the tokens and by the clause.
-use Rattle.std.proofs.Common.{◌≡◌, ℕ, suc, ◌+◌, ◌≤◌, ◌||◌, Bool, true, false, cond, List, [], ◌∷◌, ◌++◌, length, map, refl, sym, ap, subst, ◌∙◌, inl, inr, ◌⊎◌, append_assoc, append-nil, arith}
-use Rattle.std.specs.Prelude.{Option, Some, None, is_some, codes, nat_le, nat_lt, ◌&&◌}
+use Rattle.std.proofs.Common.{◌≡◌, ℕ, suc, ◌||◌, Bool, true, false, cond, List, [], ◌∷◌, ◌++◌, length, map, refl, sym, ap, subst, ◌∙◌, inl, inr, ◌⊎◌, append_assoc, append-nil, arith}
+use Rattle.std.specs.Prelude.{Option, Some, is_some, codes, nat_le, nat_lt}
 use Rattle.std.specs.List.{list_any}
 use Rattle.std.proofs.lemmas.Bool.Decides.{nat_tests}
 use Rattle.fb_types.specs.Names.{column_name}
@@ -13,7 +13,7 @@ use Rattle.where_grammar.specs.declared.token.Sign.TheVariants as sign
 use Rattle.where_grammar.specs.declared.token.Token.{Token}
 use Rattle.where_grammar.specs.declared.token.Token.TheVariants as t
 use Rattle.where_grammar.specs.Nesting.{is_close, is_not, is_sign, is_word}
-use Rattle.where_grammar.specs.Grammar.{AreParts, IsAtom, IsJoined, IsNots, IsPart, alone, ands, behind_commas, between, closing, compared, condition, doubled, enclosed, exists, group, joins, last, like, more, negated, nots, numbers, opening, other, same, several, texts, turned_round, xors}
+use Rattle.where_grammar.specs.Grammar.{AreParts, IsAtom, IsJoined, IsNots, IsPart, alone, ands, behind_commas, between, closing, compared, condition, doubled, enclosed, exists, joins, last, like, more, negated, nots, numbers, opening, other, same, several, texts, turned_round, xors}
 use Rattle.where_grammar.specs.Parsing.{bare, commas_before_close, is_long, long_behind, long_of}
 use Rattle.where_grammar.specs.Printed.{has_long_list, lists_too_much}
 use Rattle.where_grammar.proofs.Pieces.{lists_too_much-group, lists_too_much-not, lists_too_much-one}

@@ -1,5 +1,5 @@
 -- The tokens of the print of a clause, from those of its parts.
-use Rattle.std.proofs.Common.{◌≡◌, Bool, true, false, List, [], ◌∷◌, ◌++◌, map, refl, sym, ap, ◌∙◌}
+use Rattle.std.proofs.Common.{◌≡◌, Bool, false, List, [], ◌∷◌, map, refl, sym, ap, ◌∙◌}
 use Rattle.std.specs.Prelude.{codes}
 use Rattle.std.specs.List.{list_any}
 use Rattle.where_grammar.specs.declared.clause.Atom.{Atom}
@@ -10,7 +10,6 @@ use Rattle.where_grammar.specs.declared.clause.Clause.TheOpen.{Clause-F}
 use Rattle.where_grammar.specs.declared.clause.Clause.TheFolds.{fold-Clause, fold-roll-Clause}
 use Rattle.where_grammar.specs.declared.clause.Join.{Join}
 use Rattle.where_grammar.specs.declared.clause.Join.TheVariants as join
-use Rattle.where_grammar.specs.declared.token.Token.{Token}
 use Rattle.where_grammar.specs.Grammar.{group, keyword}
 use Rattle.where_grammar.specs.Printed.{Piece, any_by_parts, as_part, atom_tokens, group_piece, has_long_list, lists_too_much, piece_by_parts, piece_of}
 use Rattle.std.specs.Prelude.{ℕ, ◌||◌}

@@ -8,13 +8,12 @@ use Rattle.where_grammar.specs.declared.clause.QueryKind.{QueryKind}
 use Rattle.where_grammar.specs.declared.clause.QueryKind.TheVariants as kind
 use Rattle.where_grammar.specs.declared.clause.Join.TheVariants as join
 use Rattle.where_grammar.specs.declared.token.Placed.{Placed}
-use Rattle.where_grammar.specs.declared.token.Token.{Token}
 use Rattle.where_grammar.specs.Grammar.{IsClause}
 use Rattle.where_grammar.specs.Nesting.{is_deep}
-use Rattle.where_grammar.specs.Parsing.{bare, clause_of, long_of}
+use Rattle.where_grammar.specs.Parsing.{bare, long_of}
 use Rattle.where_grammar.specs.Printed.{IsGiven, clause_text, clause_tokens, is_fit, is_long_text, lists_too_much, reread}
 use Rattle.where_grammar.specs.Tokens.{Spells}
-use Rattle.where_grammar.specs.Language.{HasTokens, NoTokens, listed, read_by, read_tokens, read_where, spelled_by, stopped, too_deep, too_long}
+use Rattle.where_grammar.specs.Language.{HasTokens, NoTokens, listed, read_by, read_where, spelled_by, stopped, too_deep, too_long}
 use Rattle.where_grammar.proofs.TextLaws.{has_tokens, no_tokens}
 use Rattle.where_grammar.proofs.ClauseLaws.{shallow_tokens}
 use Rattle.where_grammar.proofs.Readings.{clause_of-again}

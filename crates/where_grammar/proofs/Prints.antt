@@ -1,7 +1,7 @@
 -- The print of a clause is that clause.
-use Rattle.std.proofs.Common.{◌≡◌, ℕ, ◌≤◌, Bool, true, false, cond, List, [], ◌∷◌, ◌++◌, length, map, refl, sym, ap, subst, ◌∙◌, inl, inr, append-nil, arith, ℤ}
-use Rattle.std.specs.Prelude.{Option, Some, None, codes, not, ◌&&◌, ◌||◌, nat_le}
-use Rattle.std.specs.List.{list_all, list_any}
+use Rattle.std.proofs.Common.{◌≡◌, ℕ, ◌≤◌, Bool, true, false, List, [], ◌∷◌, ◌++◌, length, map, refl, sym, ap, subst, ◌∙◌, inl, inr, append-nil, arith, ℤ}
+use Rattle.std.specs.Prelude.{Some, None, codes, not, ◌&&◌, nat_le}
+use Rattle.std.specs.List.{list_all}
 use Rattle.std.specs.Char.{to_ascii_lowercase}
 use Rattle.std.specs.Str.{str_to_ascii_lowercase}
 use Rattle.std.proofs.lemmas.Bool.Decides.{nat_tests}
@@ -156,14 +156,16 @@ prints_atom _ _ (doubled word name left right low high named) fit =
     let is : IsAtom (atom.Double name (turned (turned (turned left))) low right high) (atom_tokens (atom.Double name (turned left) low right high)) = doubled name name (turned (turned left)) right low high n.named in
     record {
       spelled = subst (λ o. IsAtom (atom.Double name o low right high) (atom_tokens (atom.Double name (turned left) low right high))) (turned-turned (turned left)) is;
-      good = number_good low _ first.0 (good_first (operator (turned (turned left))) _ tt refl (word_first name _ n.plain (good_first (operator right) _ tt refl (number_good high [] second.0 none_good))))
+      good = number_good low _ first.0 (good_first (operator (turned (turned left))) _ tt refl (word_first name _ n.plain (good_first (operator right) _ tt refl (number_good high [] second.0 none_good))));
     }
 prints_atom _ _ (between word name low high named) fit =
     let n = named_is word name named in
     let first = fit_parts (t.Number low) (t.Number high ∷ []) fit in
     let second = fit_parts (t.Number high) [] first.1 in
-    record { spelled = between name name low high n.named;
-      good = word_first name _ n.plain (word_first (codes "between") _ (refl, refl) (number_good low _ first.0 (word_first (codes "and") _ (refl, refl) (number_good high [] second.0 none_good)))) }
+    record {
+      spelled = between name name low high n.named;
+      good = word_first name _ n.plain (word_first (codes "between") _ (refl, refl) (number_good low _ first.0 (word_first (codes "and") _ (refl, refl) (number_good high [] second.0 none_good))));
+    }
 prints_atom _ _ (numbers word name first xs named) fit =
     let n = named_is word name named in
     let items = behind_commas (map t.Number xs) in
@@ -203,7 +205,7 @@ by_piece c piece e good part unit whole =
       good = subst (λ p. AreGood p.tokens) back good;
       part = subst (λ p. AreGood (as_part p)) back part;
       unit = subst (λ p. IsNots c (as_part p)) back unit;
-      whole = subst (λ p. IsClause c p.tokens) back whole
+      whole = subst (λ p. IsClause c p.tokens) back whole;
     }
 
 by_unit : (c : Clause) (tokens : List Token) → piece_of c ≡ record { is_group = false; tokens = tokens } → AreGood tokens → IsNots c tokens → Prints c
@@ -240,9 +242,13 @@ many_parts j c cs is are =
     let word = joint_word j in
     let behind : more_joined word (map piece_of cs) ≡ keyword word ∷ joined word (map piece_of cs) = ap (λ xs. more_joined word (map piece_of xs)) are.cons ∙ ap (λ xs. keyword word ∷ joined word (map piece_of xs)) (sym are.cons) in
     let all : as_part (piece_of c) ++ (keyword word ∷ joined word (map piece_of cs)) ≡ joined word (map piece_of (c ∷ cs)) = ap (λ ts. as_part (piece_of c) ++ ts) (sym behind) in
-    record { first = c; others = cs; cons = refl;
+    record {
+      first = c;
+      others = cs;
+      cons = refl;
       good = subst AreGood all (good_append (as_part (piece_of c)) (keyword word ∷ joined word (map piece_of cs)) is.part (joint_good j (joined word (map piece_of cs)) are.good));
-      spelled = subst (AreParts j (c ∷ cs)) all (more j c cs (as_part (piece_of c)) (keyword word) (joined word (map piece_of cs)) (unit_part j c (as_part (piece_of c)) is.unit) (joint_joins j) are.spelled) }
+      spelled = subst (AreParts j (c ∷ cs)) all (more j c cs (as_part (piece_of c)) (keyword word) (joined word (map piece_of cs)) (unit_part j c (as_part (piece_of c)) is.unit) (joint_joins j) are.spelled);
+    }
 
 group_prints : (j : Join) (cs : List Clause) → 2 ≤ length cs → PrintParts j cs → Prints (group j cs)
 group_prints j cs two are =

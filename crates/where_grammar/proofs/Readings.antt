@@ -1,11 +1,9 @@
 -- Each clause is found.
-use Rattle.std.proofs.Common.{◌≡◌, ℕ, zero, suc, ◌+◌, ◌-◌, ◌≤◌, ◌<◌, ◌||◌, Bool, true, false, cond, List, [], ◌∷◌, ◌++◌, length, length-append, drop, map, refl, sym, ap, subst, ◌∙◌, inl, inr, ◌⊎◌, append_assoc, append-nil, arith, eqb, ℤ}
+use Rattle.std.proofs.Common.{◌≡◌, ℕ, zero, suc, ◌+◌, ◌-◌, ◌≤◌, ◌<◌, ◌||◌, Bool, true, false, List, [], ◌∷◌, ◌++◌, length, length-append, map, refl, sym, ap, subst, ◌∙◌, inl, inr, ◌⊎◌, append_assoc, append-nil, arith, eqb}
 use Rattle.std.specs.Prelude.{Option, Some, None, codes}
-use Rattle.std.specs.Option.{option_map, option_and_then}
 use Rattle.std.specs.List.{prefix_len}
 use Rattle.std.proofs.lemmas.Bool.Decides.{nat_tests}
 use Rattle.fb_types.specs.Names.{column_name}
-use Rattle.where_grammar.specs.declared.clause.Op.{Op}
 use Rattle.where_grammar.specs.declared.clause.Atom.{Atom}
 use Rattle.where_grammar.specs.declared.clause.Clause.{Clause}
 use Rattle.where_grammar.specs.declared.clause.Clause.TheVariants as clause
@@ -14,12 +12,12 @@ use Rattle.where_grammar.specs.declared.clause.Join.TheVariants as join
 use Rattle.where_grammar.specs.declared.token.Sign.TheVariants as sign
 use Rattle.where_grammar.specs.declared.token.Token.{Token}
 use Rattle.where_grammar.specs.declared.token.Token.TheVariants as t
-use Rattle.where_grammar.specs.Nesting.{is_close, is_crowded, is_not, is_open, is_sign, is_word, room_after}
-use Rattle.where_grammar.specs.Grammar.{AreParts, IsAtom, IsClause, IsJoined, IsNots, IsPart, alone, ands, behind_commas, between, closing, compared, condition, doubled, enclosed, exists, group, joins, keyword, last, like, more, negated, nots, numbers, opening, other, same, several, texts, turned_round, xors}
-use Rattle.where_grammar.specs.Parsing.{At, after, atom_at, clause_of, clause_within, grouped, joined_at, nots_at, op_in, part_at, parts_behind, parts_within, taken, unit_at, whole}
+use Rattle.where_grammar.specs.Nesting.{is_close, is_crowded, is_not, is_open, is_sign, is_word}
+use Rattle.where_grammar.specs.Grammar.{AreParts, IsAtom, IsClause, IsJoined, IsNots, IsPart, alone, ands, behind_commas, between, closing, compared, condition, doubled, enclosed, exists, group, joins, last, like, more, negated, nots, numbers, opening, other, same, several, texts, turned_round, xors}
+use Rattle.where_grammar.specs.Parsing.{At, atom_at, clause_of, clause_within, grouped, joined_at, nots_at, op_in, part_at, parts_within, whole}
 use Rattle.where_grammar.proofs.TokenTests.{not_keyword, not_none, sign_told, word_told}
 use Rattle.where_grammar.proofs.Conditions.{NoOp, atom_again}
-use Rattle.where_grammar.proofs.Clauses.{Cut, Finds, clause_told, denied, nots_none, nots_step, part_told}
+use Rattle.where_grammar.proofs.Clauses.{Finds, clause_told, denied, nots_none, nots_step, part_told}
 
 -- ---- joints
 

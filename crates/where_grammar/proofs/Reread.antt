@@ -3,7 +3,7 @@ use Rattle.std.proofs.Common.{◌≡◌, append_assoc, ℕ, ◌<◌, Bool, true,
 use Rattle.std.specs.Prelude.{Option, Some, None, is_some}
 use Rattle.std.specs.Option.{option_map}
 use Rattle.std.specs.List.{prefix_len, list_all}
-use Rattle.std.specs.Char.{is_ascii_digit, to_ascii_lowercase}
+use Rattle.std.specs.Char.{is_ascii_digit}
 use Rattle.std.specs.Str.{str_to_ascii_lowercase}
 use Rattle.std.specs.Str.Parse.{digits_value}
 use Rattle.std.proofs.lemmas.List.{take_at, drop_at}
@@ -15,7 +15,7 @@ use Rattle.where_grammar.specs.declared.token.Token.TheVariants as t
 use Rattle.where_grammar.specs.Tokens.{is_quote, doubled, IsQuoted, is_first, text_at, begins_word, in_word, double_sign, single_sign, is_word, sign_of, IsWritten, goes_on, signed, word_at, number_at, sign_at, token_at}
 use Rattle.lexing.specs.Blanks.{is_blank, StopsAt}
 use Rattle.lexing.proofs.Cases.{chosen, mapped}
-use Rattle.lexing.proofs.Runs.{prefix_len-cut, and_parts, all_append}
+use Rattle.lexing.proofs.Runs.{prefix_len-cut, and_parts}
 use Rattle.where_grammar.proofs.Quotes.{unquoted_again}
 use Rattle.where_grammar.proofs.Cuts.{no_minus, no_plus}
 use Rattle.where_grammar.proofs.Signs.{BeginsSign, single_begins, double_begins}
@@ -216,4 +216,3 @@ token_reads (t.Word word) form rest written stops = subst (λ w. Reads (form ++ 
 token_reads (t.Number z) form rest written stops = number_reads form rest z written stops
 token_reads (t.Text word) form rest written stops = texts_read form rest word written stops
 token_reads (t.Sign s) form rest written stops = signs_read form rest s written stops
-

@@ -1,12 +1,12 @@
 -- What the bytes of a sign are.
-use Rattle.std.proofs.Common.{◌≡◌, ℕ, Bool, true, false, cond, List, [], ◌∷◌, refl, sym, ap, subst, inl, inr, eqb, eqb-true}
-use Rattle.std.specs.Prelude.{Option, Some, None, ◌&&◌, codes}
+use Rattle.std.proofs.Common.{◌≡◌, ℕ, Bool, true, false, cond, refl, sym, subst, inl, inr, eqb, eqb-true}
+use Rattle.std.specs.Prelude.{Option, Some, None, ◌&&◌}
 use Rattle.std.specs.Char.{is_ascii_digit}
 use Rattle.where_grammar.specs.declared.clause.Op.TheVariants as op
 use Rattle.where_grammar.specs.declared.token.Sign.{Sign}
 use Rattle.where_grammar.specs.declared.token.Sign.TheVariants as sign
 use Rattle.lexing.specs.Blanks.{is_blank}
-use Rattle.where_grammar.specs.Tokens.{is_quote, begins_word, double_sign, single_sign, sign_of}
+use Rattle.where_grammar.specs.Tokens.{is_quote, begins_word, double_sign, single_sign}
 use Rattle.lexing.proofs.Cases.{chosen}
 use Rattle.lexing.proofs.Runs.{and_parts}
 

@@ -1,7 +1,6 @@
 -- The tokens of a text, by what it spells and by the function.
-use Rattle.std.proofs.Common.{◌≡◌, ℕ, Bool, true, false, cond, List, [], ◌∷◌, ◌++◌, length, refl, sym, ap, subst, ◌∙◌, inl, inr, ◌⊎◌}
+use Rattle.std.proofs.Common.{◌≡◌, ℕ, Bool, true, false, cond, List, ◌∷◌, length, refl, sym, ap, subst, ◌∙◌}
 use Rattle.std.specs.Prelude.{Option, Some, None, Result, Ok, Err}
-use Rattle.lexing.specs.Blanks.{is_blank}
 use Rattle.lexing.proofs.Laws.{IsComplete, IsRefused, IsSound, Refuses, tokens_from-spelled, spelled-tokens_from, tokens_from-stopped, stopped-tokens_from}
 use Rattle.where_grammar.specs.declared.clause.QueryKind.{QueryKind}
 use Rattle.where_grammar.specs.declared.clause.QueryKind.TheVariants as kind
@@ -64,9 +63,11 @@ excess_kind text token rest kind.Syntax is e = absurd (no_syntax token e)
     no_syntax_if : (fits : Bool) (k : QueryKind) → cond fits None (Some kind.Literal) ≡ Some kind.Syntax → ⊥
     no_syntax_if true k e = cc
     no_syntax_if false k e = cc
+
     no_syntax_long : (long : Bool) (k : QueryKind) → cond long (Some kind.TextLength) None ≡ Some kind.Syntax → ⊥
     no_syntax_long true k e = cc
     no_syntax_long false k e = cc
+
     no_syntax : (token : Token) → excess token ≡ Some kind.Syntax → ⊥
     no_syntax (t.Word word) e = cc
     no_syntax (t.Number z) e = no_syntax_if (fits_128 z) kind.Syntax e

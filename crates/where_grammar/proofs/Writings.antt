@@ -1,6 +1,6 @@
 -- Written tokens are read as themselves.
-use Rattle.std.proofs.Common.{◌≡◌, ℕ, zero, suc, ◌+◌, ◌-◌, ◌^◌, ◌≤◌, ◌<◌, ◌||◌, Bool, true, false, cond, List, [], ◌∷◌, ◌++◌, length, get_or, map, refl, sym, ap, subst, ◌∙◌, inl, inr, ◌⊎◌, arith, ℤ, pos, negsuc, neg_ℤ}
-use Rattle.std.specs.Prelude.{Option, Some, None, codes, ◌&&◌}
+use Rattle.std.proofs.Common.{◌≡◌, ℕ, suc, ◌-◌, ◌^◌, ◌<◌, ◌||◌, Bool, true, false, cond, List, [], ◌∷◌, ◌++◌, length, get_or, refl, sym, ap, subst, ◌∙◌, inl, inr, ◌⊎◌, arith, ℤ, pos, negsuc, neg_ℤ}
+use Rattle.std.specs.Prelude.{Some, None, codes, ◌&&◌}
 use Rattle.std.specs.List.{list_all, list_any}
 use Rattle.std.specs.Char.{is_ascii_digit}
 use Rattle.std.specs.Fmt.{decimal, signed_decimal}
@@ -101,12 +101,12 @@ Parts token b = goes_on (token_text token) token b ≡ false
 by_stop : (token : Token) → Parts token 32 → Parts token 41 → Parts token 44 → (rest : List ℕ) → Stops rest → StopsAt (goes_on (token_text token) token) rest
 by_stop token blank closes commas [] stops = tt
 by_stop token blank closes commas (b ∷ bs) stops = elim stops [
-    | inl is ↦ subst (Parts token) (sym is) blank
-    | inr other ↦ elim other [
-      | inl is ↦ subst (Parts token) (sym is) closes
-      | inr is ↦ subst (Parts token) (sym is) commas
-    ]
+  | inl is ↦ subst (Parts token) (sym is) blank
+  | inr other ↦ elim other [
+    | inl is ↦ subst (Parts token) (sym is) closes
+    | inr is ↦ subst (Parts token) (sym is) commas
   ]
+]
 
 op_stops : (by : Op) (rest : List ℕ) → Stops rest → StopsAt (goes_on (op_text by) (t.Sign (sign.Op by))) rest
 op_stops op.Less rest stops = by_stop (t.Sign (sign.Op op.Less)) refl refl refl rest stops
@@ -233,8 +233,18 @@ long_here size text p rest long b =
     let reads = token_reads p.token front.form rest front.written front.ends in
     let cons : b.behind ≡ reads.first ∷ reads.others = front.cut ∙ reads.cons in
     let is : IsInFront (reads.first ∷ reads.others) p.token rest = subst (λ xs. IsInFront xs p.token rest) cons front in
-    record { tokens = []; more = text; front = refl; blanks = b.blanks; first = reads.first; others = reads.others; cut = b.cut ∙ ap (λ xs. b.blanks ++ xs) cons; all_blank = b.all_blank; visible = reads.visible;
-      wrong = record { token = p.token; rest = rest; front = is; passed = long_excess p.token long } }
+    record {
+      tokens = [];
+      more = text;
+      front = refl;
+      blanks = b.blanks;
+      first = reads.first;
+      others = reads.others;
+      cut = b.cut ∙ ap (λ xs. b.blanks ++ xs) cons;
+      all_blank = b.all_blank;
+      visible = reads.visible;
+      wrong = record { token = p.token; rest = rest; front = is; passed = long_excess p.token long };
+    }
 
 behind_token : (size : ℕ) (text : List ℕ) (p : Placed) (rest : List ℕ) → lexing.BeginsWith IsToken size text p rest → lexing.StopsWith IsToken IsWrong size rest kind.TextLength → lexing.StopsWith IsToken IsWrong size text kind.TextLength
 behind_token size text p rest begins stops =

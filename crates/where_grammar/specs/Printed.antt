@@ -17,7 +17,7 @@ use Rattle.where_grammar.specs.declared.token.Token.{Token}
 use Rattle.where_grammar.specs.declared.token.Token.TheVariants as t
 use Rattle.where_grammar.specs.Tokens.{doubled, fits_128}
 use Rattle.where_grammar.specs.Nesting.{is_open, is_close, is_sign, is_deep}
-use Rattle.where_grammar.specs.Grammar.{IsClause, behind_commas, closing, comma, keyword, opening, operator, turned}
+use Rattle.where_grammar.specs.Grammar.{IsClause, behind_commas, closing, keyword, opening, operator, turned}
 
 -- ---- the tokens of the print
 

@@ -17,7 +17,6 @@ mod truth;
 pub use clause::{Atom, Clause, ClauseFault, ClauseRead, Op, QueryKind};
 pub use parsing::{after_where, clause_of, parse_where, the_grammar_is_unambiguous};
 pub use printing::print_where;
-
 pub use token::{Placed, Sign, Token, tokens};
 pub use truth::{
     the_truth_of_a_negation, the_truth_of_clauses, the_truth_of_numbers, the_truth_of_patterns,

@@ -39,8 +39,13 @@ fn same_sign(a: Sign, b: Sign) -> bool
 {
     matches!(
         (a, b),
-        (Sign::And, Sign::And) | (Sign::Or, Sign::Or) | (Sign::Not, Sign::Not) | (Sign::Open, Sign::Open)
-            | (Sign::Close, Sign::Close) | (Sign::Comma, Sign::Comma) | (Sign::Star, Sign::Star)
+        (Sign::And, Sign::And)
+            | (Sign::Or, Sign::Or)
+            | (Sign::Not, Sign::Not)
+            | (Sign::Open, Sign::Open)
+            | (Sign::Close, Sign::Close)
+            | (Sign::Comma, Sign::Comma)
+            | (Sign::Star, Sign::Star)
     )
 }
 

@@ -21,11 +21,7 @@ fn push_word(alloc: Global, out: &mut Items<Token>, word: &[u8]) -> Result<(), A
 }
 
 /// Items, a comma before each.
-fn push_more<T: Item>(
-    alloc: Global,
-    out: &mut Items<Token>,
-    items: &[T],
-) -> Result<(), AllocError>
+fn push_more<T: Item>(alloc: Global, out: &mut Items<Token>, items: &[T]) -> Result<(), AllocError>
     ensures { OnOk result (out.new ≡ out.old ++ behind_commas (map T.as_token items.now)) }
 {
     for item in items {
@@ -36,11 +32,7 @@ fn push_more<T: Item>(
 }
 
 /// Items with commas between.
-fn push_items<T: Item>(
-    alloc: Global,
-    out: &mut Items<Token>,
-    items: &[T],
-) -> Result<(), AllocError>
+fn push_items<T: Item>(alloc: Global, out: &mut Items<Token>, items: &[T]) -> Result<(), AllocError>
     ensures { OnOk result (out.new ≡ out.old ++ with_commas (map T.as_token items.now)) }
 {
     match items {

@@ -72,7 +72,10 @@ fn reads_and_prints_conditions(rt: HostRuntime) -> Result<(), Fail> {
 fn reads_and_prints_clauses(rt: HostRuntime) -> Result<(), Fail> {
     for (text, want) in [
         ("A<5 && !(b=\"x\")", "a < 5 and not b = \"x\""),
-        ("a=1 or b=2 and c=3 xor d=4", "a = 1 or ((b = 2 and c = 3) xor d = 4)"),
+        (
+            "a=1 or b=2 and c=3 xor d=4",
+            "a = 1 or ((b = 2 and c = 3) xor d = 4)",
+        ),
         ("a=1 || b=2 || c=3", "a = 1 or b = 2 or c = 3"),
         ("(a=1 or b=2) or c=3", "(a = 1 or b = 2) or c = 3"),
         ("((a=1))", "a = 1"),
@@ -136,7 +139,10 @@ fn tells_the_first_stage(rt: HostRuntime) -> Result<(), Fail> {
     for (text, want) in [
         ("a < 170141183460469231731687303715884105728", "Literal"),
         ("a < -170141183460469231731687303715884105729", "Literal"),
-        ("999999999999999999999999999999999999999999 and \"open", "Literal"),
+        (
+            "999999999999999999999999999999999999999999 and \"open",
+            "Literal",
+        ),
         ("# 999999999999999999999999999999999999999999", "Syntax"),
         ("by < 999999999999999999999999999999999999999999", "Literal"),
     ] {
@@ -313,7 +319,10 @@ fn parts_texts_into_tokens(rt: HostRuntime) -> Result<(), Fail> {
             "<=>=<>!==<==",
             "0:Op(LessEq) 2:Op(GreaterEq) 4:Op(Differs) 6:Op(Differs) 8:Op(Equal) 9:Op(LessEq) 11:Op(Equal) ",
         ),
-        ("&&||!(),*", "0:And 2:Or 4:Not 5:Open 6:Close 7:Comma 8:Star "),
+        (
+            "&&||!(),*",
+            "0:And 2:Or 4:Not 5:Open 6:Close 7:Comma 8:Star ",
+        ),
         ("\"a\"\"b\"'c''d'''", "0:[a\"b] 6:[c'd'] "),
         ("\"é\"''", "0:[é] 4:[] "),
         ("\"open", "none"),

@@ -160,7 +160,11 @@ const MAX_TEXT: usize = 65_535;
 
 /// The text up to the quote that ends it, and what follows that.
 #[tactic(auto, unfolding(crate::specs::Tokens::text_at))]
-fn text_at(alloc: Global, quote: u8, text: &[u8]) -> Result<Result<(Token, &[u8]), QueryKind>, AllocError>
+fn text_at(
+    alloc: Global,
+    quote: u8,
+    text: &[u8],
+) -> Result<Result<(Token, &[u8]), QueryKind>, AllocError>
     ensures { IfOk result (λ found. seen found ≡ within_limits (text_at quote text.now)) }
 {
     match unquoted(alloc, quote, text)? {

@@ -7,5 +7,5 @@ use Rattle.where_grammar.proofs.fronts.nots_len.Given as goal
 abbrev pub invariant-loop-placed : goal.invariant-loop-placed
 invariant-loop-placed l = record {
   rest : l.n + prefix_len is_not (bare (drop l.placed-index l.tokens)) ≡ prefix_len is_not (bare l.tokens);
-  count : l.n ≡ l.placed-index
+  count : l.n ≡ l.placed-index;
 }

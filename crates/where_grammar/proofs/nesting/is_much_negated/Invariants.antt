@@ -6,5 +6,5 @@ use Rattle.where_grammar.proofs.nesting.is_much_negated.Given as goal
 abbrev pub invariant-loop-placed : goal.invariant-loop-placed
 invariant-loop-placed l = record {
   same : is_much_negated l.nots (bare (drop l.placed-index l.tokens)) ≡ is_much_negated 0 (bare l.tokens);
-  few : l.nots ≤ 16
+  few : l.nots ≤ 16;
 }

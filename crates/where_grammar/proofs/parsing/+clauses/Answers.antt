@@ -1,14 +1,10 @@
-use Rattle.std.proofs.Common.{◌≡◌, ◌≢◌, not, Bool, ◌<◌, ◌≤◌, ◌+◌, ◌-◌, ◌++◌, List, [], ◌∷◌, length, length-append, false, true, sym, ap, ◌∙◌, arith}
+use Rattle.std.proofs.Common.{◌≡◌, ◌≢◌, not, Bool, ◌<◌, ◌≤◌, ◌+◌, ◌++◌, [], ◌∷◌, length, length-append, false, true, sym, ap, ◌∙◌, arith}
 use Rattle.std.specs.Prelude.{Option, Some, None, is_some}
 use Rattle.std.specs.Option.{option_map}
-use Rattle.std.proofs.lemmas.Bool.Decides.{nat_tests}
-use Rattle.where_grammar.specs.declared.clause.Join.TheVariants as join
-use Rattle.where_grammar.specs.declared.token.Token.{Token}
 use Rattle.where_grammar.specs.Grammar.{joins}
-use Rattle.where_grammar.specs.Nesting.{is_close}
 use Rattle.where_grammar.specs.Parsing.{after, bare, clause_within}
 use Rattle.where_grammar.proofs.Joints.{enclosed_none, enclosed_open, enclosed_some, ended, part-shrinks, part_of, parts_here, parts_here-some, within_less}
-use Rattle.where_grammar.proofs.Lists.{length-bare, put-with, put_items, with_item}
+use Rattle.where_grammar.proofs.Lists.{length-bare, put-with, put_items}
 use Rattle.where_grammar.proofs.TokenTests.{after_told}
 use Rattle.where_grammar.proofs.parsing.+clauses.Goals as goal
 
@@ -63,7 +59,7 @@ more_joined-loop-behind-preserved t c =
     record {
       so_far = ap (λ xs. put_items xs (parts_here j (part_of j depth) after_part)) pushed ∙ (sym (put-with c.loop-behind.parts next (parts_here j (part_of j depth) after_part)) ∙ (ap (put_items c.loop-behind.parts) (sym step) ∙ c.loop-behind.invariant.so_far));
       some = omega arith;
-      first_alone = λ one. absurd (omega arith)
+      first_alone = λ one. absurd (omega arith);
     }
 
 no_joint : {A B : Type 0} (f : A → B) (o : Option A) (none : Bool) → is_some o ≡ not none → none ≡ false → option_map f o ≡ None → ⊥

@@ -26,7 +26,7 @@ abbrev pub invariant-more_joined-loop-behind : goal.invariant-more_joined-loop-b
 invariant-more_joined-loop-behind l = record {
   so_far : put_items l.parts (parts_here l.join (part_of l.join l.depth) (bare l.rest)) ≡ with_item l.fn.first (parts_here l.join (part_of l.join l.depth) (bare l.tokens));
   some : 1 ≤ length l.parts;
-  first_alone : length l.parts ≡ 1 → bare l.rest ≡ bare l.tokens
+  first_alone : length l.parts ≡ 1 → bare l.rest ≡ bare l.tokens;
 }
 
 abbrev pub decreases-more_joined-loop-behind : goal.decreases-more_joined-loop-behind

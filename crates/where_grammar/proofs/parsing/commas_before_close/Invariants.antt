@@ -5,5 +5,5 @@ use Rattle.where_grammar.proofs.parsing.commas_before_close.Given as goal
 abbrev pub invariant-loop-placed : goal.invariant-loop-placed
 invariant-loop-placed l = record {
   rest : l.commas + commas_before_close (bare (drop l.placed-index l.tokens)) ≡ commas_before_close (bare l.tokens);
-  few : l.commas ≤ l.placed-index
+  few : l.commas ≤ l.placed-index;
 }

@@ -10,6 +10,7 @@ use Rattle.command_words.specs.declared.Job.TheVariants.{Ibis}
 use Rattle.where_grammar.specs.declared.clause.Clause.{Clause}
 use Rattle.where_grammar.specs.declared.clause.QueryKind.{QueryKind}
 use Rattle.where_grammar.specs.declared.clause.QueryKind.TheVariants.{Syntax, Literal, Unknown}
+use Rattle.where_grammar.specs.declared.clause.QueryKind.TheVariants as query
 use Rattle.world.specs.World.{World}
 use Rattle.world.specs.Stands.{Stands, StandsFor}
 use Rattle.world.specs.Effects.{Effect}
@@ -38,6 +39,10 @@ of_files (Damaged file kind want have) e = record { no_fault = refl; not_done = 
 of_files (BadQuery (Unknown name)) e = record { no_fault = refl; not_done = λ d. cc }
 of_files (BadQuery Syntax) e = absurd (cc)
 of_files (BadQuery Literal) e = absurd (cc)
+of_files (BadQuery query.Length) e = absurd (cc)
+of_files (BadQuery query.TextLength) e = absurd (cc)
+of_files (BadQuery query.Depth) e = absurd (cc)
+of_files (BadQuery query.ListLength) e = absurd (cc)
 of_files Done e = absurd (cc)
 of_files Usage e = absurd (cc)
 of_files (BadSchema column kind) e = absurd (cc)

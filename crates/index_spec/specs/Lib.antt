@@ -5,3 +5,4 @@ pub mod Options
 pub mod Meaning
 pub mod Printed
 pub mod Language
+pub mod Shorter

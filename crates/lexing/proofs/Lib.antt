@@ -1,0 +1,4 @@
+pub mod Cases
+pub mod Runs
+pub mod Steps
+pub mod Laws

@@ -11,7 +11,7 @@ mod turn;
 mod unions;
 
 pub use lockstep::{Lockstep, Pair};
-pub use logic::{combine, common, complement};
+pub use logic::{combine, combined, common, complement};
 pub use ops::{And, AndNot, BitOp, Or, Xor};
 pub use unions::or_many;
 

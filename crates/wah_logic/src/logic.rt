@@ -60,6 +60,7 @@ pub fn combined<O: BitOp, L: Ledger>(
 ) -> Result<Wah, AllocError>
     requires { length a.now ≡ length b.now }
     ensures values { IfOk result (λ v. v ≡ each_place O.op a.now b.now) }
+    ensures length { IfOk result (λ v. length v ≡ length a.now) }
     ensures words { IfOk result (λ v. words_of v ≤ words_of a.now + words_of b.now) }
     ensures steps { steps.new ≤ steps.old + words_of a.now + words_of b.now }
     ensures groups { steps.new ≤ steps.old + 2 * groups_and_rest (length a.now) }

@@ -2,13 +2,15 @@
 use Rattle.std.proofs.Common.{◌≡◌, ◌==◌, ℕ, zero, suc, ◌+◌, ◌-◌, ◌<◌, ◌≤◌, Bool, true, false, ◌&&◌, ◌||◌, if◌then◌else◌, nat_lt, nat_le, map, List, [], ◌∷◌, All, length, replicate, get_or, refl, sym, ap, ◌∙◌, ◌⊎◌, inl, inr, arith, rules}
 use Rattle.std.specs.List.{list_any, range_with_len}
 use Rattle.std.proofs.lemmas.Bool.Decides.{nat_tests}
-use Rattle.std.proofs.lemmas.List.{length-replicate}
+use Rattle.std.proofs.lemmas.List.{length-replicate, length-map}
 use Rattle.std.proofs.lemmas.List.Elements.{All-drop}
 use Rattle.wah_logic.specs.Logic.{each_place, and, or, union}
 use Rattle.wah_logic.proofs.JoinLemmas.{length-each, each_replicate}
-use Rattle.wah_logic.proofs.UnionLemmas.{each_zeros_left, length-union}
+use Rattle.wah_logic.proofs.UnionLemmas.{each_zeros_left, length-union, union-one}
 use Rattle.index_spec.specs.Members.{from_to}
+use Rattle.binning.specs.declared.gathering.Bin.{Bin}
 use Rattle.binning.specs.Members.{chosen, union_of, in_run, AreBins}
+use Rattle.binning.specs.Encodings.{vectors}
 
 -- ---- lists without a place that is true in both
 
@@ -315,3 +317,31 @@ classes_are_bins len class vs n h = record {
   long = classes_long len class vs 0 n h.long;
   apart = λ a b row x y. (let r = class_at len class vs 0 n a row h.long x in let t = class_at len class vs 0 n b row h.long y in let e : r.0 ≡ t.0 = h.apart r.0 t.0 row r.2 t.2 in omega (arith, r.1, t.1, ap class e));
 }
+
+-- ---- one bin
+
+pub bin_is : (len : ℕ) (vs : List (List Bool)) (k : ℕ) (d : List Bool) → All (λ x. length x ≡ len) vs → k < length vs → get_or vs k d ≡ union_of len (λ b. b == k) vs
+unfolding union
+bin_is len [] k d h l = absurd (omega arith)
+bin_is len (v ∷ vs) zero d h l =
+    sym (union_of-cons len (λ b. b == 0) v vs h
+    ∙ ap (λ u. each_place or (kept_if true v) u) (union_of-same len (λ b. suc b == 0) (λ b. false) vs (λ b m. grind (arith, nat_tests)) ∙ union_of-none len vs)
+    ∙ union-one len (kept_if true v) (ap length (kept_true v) ∙ head_long len v vs h)
+    ∙ kept_true v)
+bin_is len (v ∷ vs) (suc k) d h l =
+    let other : (0 == suc k) ≡ false = grind (arith, nat_tests) in
+    bin_is len vs k d (tail_long len v vs h) (omega arith)
+    ∙ sym (union_of-cons len (λ b. b == suc k) v vs h
+      ∙ ap (λ u. each_place or u (union_of len (λ b. suc b == suc k) vs)) (ap (λ t. kept_if t v) other ∙ kept_false v)
+      ∙ each_zeros_left (length v) (union_of len (λ b. suc b == suc k) vs) (length-union_of len (λ b. suc b == suc k) vs (tail_long len v vs h) ∙ sym (head_long len v vs h))
+      ∙ union_of-same len (λ b. suc b == suc k) (λ b. b == k) vs (λ b m. grind (arith, nat_tests)))
+
+get_or-vectors : (bins : List Bin) (k : ℕ) (d : Bin) (e : List Bool) → k < length bins → get_or (vectors bins) k e ≡ (get_or bins k d).rows
+get_or-vectors [] k d e h = absurd (omega arith)
+get_or-vectors (b ∷ bins) zero d e h = refl
+get_or-vectors (b ∷ bins) (suc k) d e h = get_or-vectors bins k d e (omega arith)
+
+-- the rows of bin k
+pub rows_of_bin : (len : ℕ) (bins : List Bin) (k : ℕ) (bin : Bin) → AreBins len (vectors bins) → k < length bins → bin ≡ get_or bins k bin → bin.rows ≡ union_of len (λ b. b == k) (vectors bins)
+rows_of_bin len bins k bin h l e =
+    ap (λ b. b.rows) e ∙ sym (get_or-vectors bins k bin [] l) ∙ bin_is len (vectors bins) k [] h.long (omega (arith, length-map bins (λ b. b.rows)))

@@ -1,10 +1,12 @@
 -- What is read for a run of bins, as unions over sets of bins.
 use Rattle.std.proofs.Common.{◌≡◌, ℕ, zero, suc, ◌+◌, ◌*◌, ◌<◌, ◌≤◌, Bool, true, false, map, List, [], ◌∷◌, All, length, get_or, Result, Ok, Err, OnOk, OnErr, refl, sym, ap, ◌∙◌, arith}
+use Rattle.std.specs.List.{list_any}
+use Rattle.std.proofs.lemmas.List.{map-id}
 use Rattle.index_spec.specs.declared.spec.EncodingSpec.{EncodingSpec}
 use Rattle.index_spec.specs.Members.{member, needed}
 use Rattle.wah_logic.specs.Logic.{each_place, union, groups_and_rest}
 use Rattle.binning.specs.Members.{union_of, in_run, AreBins, bitmap, AreFetched}
-use Rattle.binning.proofs.MembersLemmas.{union_of-same, union_of-all, bins-op, bins_apart}
+use Rattle.binning.proofs.MembersLemmas.{union_of-same, union_of-all, bins-op, bins-unions}
 
 get_or-map_of : {A : Type 0} (f : ℕ → A) (ks : List ℕ) (i : ℕ) (d : A) → i < length ks → get_or (map f ks) i d ≡ f (get_or ks i 0)
 get_or-map_of f [] i d h = absurd (omega arith)
@@ -47,3 +49,15 @@ few_steps len words old new k h e =
 pub copy_steps : {T E : Type 0} (r : Result T E) (len words old new k : ℕ) → words ≤ groups_and_rest len → OnOk r (new ≡ old + words) → OnErr r (new ≡ old) → new ≤ old + 2 * groups_and_rest len * (k + 1)
 copy_steps (Ok x) len words old new k h e f = few_steps len words old new k h (omega (arith, e))
 copy_steps (Err x) len words old new k h e f = few_steps len words old new k h (omega (arith, f))
+
+-- ---- all that was read
+
+-- the union of all that was read is that of the bins which one of the bitmaps has
+pub fetched_union : (e : EncodingSpec) (n i j : ℕ) (vs fetched : List (List Bool)) (mask : List Bool) → AreFetched e n i j vs fetched mask → union (length mask) fetched ≡ union_of (length mask) (λ b. list_any (λ k. member e n k b) (needed e n i j)) vs
+fetched_union e n i j vs fetched mask h =
+    ap (λ l. union (length mask) l) h.bitmaps
+    ∙ bins-unions (length mask) (member e (length vs)) (needed e n i j) vs h.bins_apart
+    ∙ ap (λ m. union_of (length mask) (λ b. list_any (λ k. member e m k b) (needed e n i j)) vs) h.number
+
+pub long_rows : (len : ℕ) (fetched : List (List Bool)) → All (λ v. length v ≡ len) fetched → All (λ v. length v ≡ len) (map (λ v. v) fetched)
+long_rows len fetched h = rw (map-id fetched) h

@@ -1,8 +1,9 @@
 -- Unions over sets of bins: for bins apart, an operation on two unions is the union over the operation on the sets.
-use Rattle.std.proofs.Common.{◌≡◌, ◌==◌, ℕ, zero, suc, ◌+◌, ◌-◌, ◌<◌, ◌≤◌, Bool, true, false, ◌&&◌, ◌||◌, if◌then◌else◌, nat_lt, nat_le, map, List, [], ◌∷◌, All, length, replicate, get_or, refl, sym, ap, ◌∙◌, ◌⊎◌, inl, inr, arith, rules}
+use Rattle.std.proofs.Common.{◌≡◌, ◌==◌, ℕ, zero, suc, ◌+◌, ◌-◌, ◌<◌, ◌≤◌, Bool, true, false, ◌&&◌, ◌||◌, if◌then◌else◌, nat_lt, nat_le, map, List, [], ◌∷◌, ◌++◌, All, length, replicate, get_or, refl, sym, ap, ◌∙◌, ◌⊎◌, inl, inr, arith, rules}
 use Rattle.std.specs.List.{list_any, range_with_len}
 use Rattle.std.proofs.lemmas.Bool.Decides.{nat_tests}
-use Rattle.std.proofs.lemmas.List.{length-replicate, length-map}
+use Rattle.std.proofs.lemmas.List.{length-replicate, length-map, map-id}
+use Rattle.std.proofs.lemmas.List.FromFn.{map-range_with_len_more}
 use Rattle.std.proofs.lemmas.List.Elements.{All-drop}
 use Rattle.wah_logic.specs.Logic.{each_place, and, or, union}
 use Rattle.wah_logic.proofs.JoinLemmas.{length-each, each_replicate}
@@ -345,3 +346,18 @@ get_or-vectors (b ∷ bins) (suc k) d e h = get_or-vectors bins k d e (omega ari
 pub rows_of_bin : (len : ℕ) (bins : List Bin) (k : ℕ) (bin : Bin) → AreBins len (vectors bins) → k < length bins → bin ≡ get_or bins k bin → bin.rows ≡ union_of len (λ b. b == k) (vectors bins)
 rows_of_bin len bins k bin h l e =
     ap (λ b. b.rows) e ∙ sym (get_or-vectors bins k bin [] l) ∙ bin_is len (vectors bins) k [] h.long (omega (arith, length-map bins (λ b. b.rows)))
+
+-- a list is told by what stands at each place
+listed : {A : Type 0} (f : ℕ → A) (a : ℕ) (xs : List A) → ((k : ℕ) (d : A) → k < length xs → get_or xs k d ≡ f (a + k)) → xs ≡ map f (range_with_len a (length xs))
+listed f a [] h = refl
+listed f a (x ∷ xs) h = let here : a + 0 ≡ a = omega arith in ap (λ y. y ∷ xs) (h 0 x (omega arith) ∙ ap f here) ∙ ap (λ l. f a ∷ l) (listed f (a + 1) xs (λ k d l. h (suc k) d (omega arith) ∙ ap f (omega arith)))
+
+-- the bins are the unions over one bin each
+pub all_bins : (len : ℕ) (vs : List (List Bool)) → AreBins len vs → vs ≡ map (λ k. union_of len (λ b. b == k) vs) (from_to 0 (length vs))
+all_bins len vs h =
+    let same : length vs ≡ length vs - 0 = omega arith in
+    listed (λ k. union_of len (λ b. b == k) vs) 0 vs (λ k d l. bin_is len vs k d h.long l ∙ ap (λ m. union_of len (λ b. b == m) vs) (omega arith)) ∙ ap (λ n. map (λ k. union_of len (λ b. b == k) vs) (range_with_len 0 n)) same
+
+pub from_to_more : (i j : ℕ) → i ≤ j → from_to i (j + 1) ≡ from_to i j ++ j ∷ []
+from_to_more i j h =
+    ap (λ n. range_with_len i n) (omega arith) ∙ sym (map-id (range_with_len i (j - i + 1))) ∙ map-range_with_len_more (λ x. x) i (j - i) j (omega arith) ∙ ap (λ l. l ++ j ∷ []) (map-id (from_to i j))

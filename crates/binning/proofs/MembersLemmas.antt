@@ -1,5 +1,5 @@
 -- Unions over sets of bins: for bins apart, an operation on two unions is the union over the operation on the sets.
-use Rattle.std.proofs.Common.{◌≡◌, ◌==◌, ℕ, zero, suc, ◌+◌, ◌-◌, ◌<◌, ◌≤◌, Bool, true, false, ◌&&◌, ◌||◌, if◌then◌else◌, nat_lt, nat_le, map, List, [], ◌∷◌, ◌++◌, All, length, replicate, get_or, refl, sym, ap, ◌∙◌, ◌⊎◌, inl, inr, arith, rules}
+use Rattle.std.proofs.Common.{◌≡◌, ◌==◌, ℕ, zero, suc, ◌+◌, ◌-◌, ◌<◌, ◌≤◌, Bool, true, false, ◌&&◌, ◌||◌, if◌then◌else◌, nat_lt, nat_le, map, List, [], ◌∷◌, ◌++◌, All, length, take, drop, replicate, get_or, refl, sym, ap, ◌∙◌, ◌⊎◌, inl, inr, arith, rules}
 use Rattle.std.specs.List.{list_any, range_with_len}
 use Rattle.std.proofs.lemmas.Bool.Decides.{nat_tests}
 use Rattle.std.proofs.lemmas.List.{length-replicate, length-map, map-id}
@@ -361,3 +361,50 @@ all_bins len vs h =
 pub from_to_more : (i j : ℕ) → i ≤ j → from_to i (j + 1) ≡ from_to i j ++ j ∷ []
 from_to_more i j h =
     ap (λ n. range_with_len i n) (omega arith) ∙ sym (map-id (range_with_len i (j - i + 1))) ∙ map-range_with_len_more (λ x. x) i (j - i) j (omega arith) ∙ ap (λ l. l ++ j ∷ []) (map-id (from_to i j))
+
+-- ---- the bins of a run
+
+take_none : {A : Type 0} (n : ℕ) → let none : List A = [] in take n none ≡ none
+take_none zero = refl
+take_none (suc n) = refl
+
+drop_none : {A : Type 0} (n : ℕ) → let none : List A = [] in drop n none ≡ none
+drop_none zero = refl
+drop_none (suc n) = refl
+
+chosen_front : (w : ℕ) (set : ℕ → Bool) (vs : List (List Bool)) → ((b : ℕ) → set b ≡ nat_lt b w) → chosen set vs ≡ take w vs
+chosen_front w set [] h = sym (take_none w)
+chosen_front zero set (v ∷ vs) h =
+    let out : set 0 ≡ false = h 0 ∙ grind (arith, nat_tests) in
+    ap (λ t. if t then v ∷ chosen (λ b. set (suc b)) vs else chosen (λ b. set (suc b)) vs) out ∙ chosen_front zero (λ b. set (suc b)) vs (λ b. h (suc b) ∙ grind (arith, nat_tests))
+chosen_front (suc w) set (v ∷ vs) h =
+    let inside : set 0 ≡ true = h 0 ∙ grind (arith, nat_tests) in
+    ap (λ t. if t then v ∷ chosen (λ b. set (suc b)) vs else chosen (λ b. set (suc b)) vs) inside ∙ ap (λ l. v ∷ l) (chosen_front w (λ b. set (suc b)) vs (λ b. h (suc b) ∙ grind (arith, nat_tests)))
+
+chosen_run : (i j : ℕ) (set : ℕ → Bool) (vs : List (List Bool)) → ((b : ℕ) → set b ≡ in_run i j b) → chosen set vs ≡ take (j - i) (drop i vs)
+chosen_run i j set [] h = sym (ap (λ l. take (j - i) l) (drop_none i) ∙ take_none (j - i))
+chosen_run zero j set (v ∷ vs) h =
+    let same : j ≡ j - 0 = omega arith in
+    chosen_front j set (v ∷ vs) (λ b. h b ∙ grind (arith, nat_tests)) ∙ ap (λ n. take n (v ∷ vs)) same
+chosen_run (suc i) j set (v ∷ vs) h =
+    let out : set 0 ≡ false = h 0 ∙ grind (arith, nat_tests) in
+    ap (λ t. if t then v ∷ chosen (λ b. set (suc b)) vs else chosen (λ b. set (suc b)) vs) out
+    ∙ chosen_run i (j - 1) (λ b. set (suc b)) vs (λ b. h (suc b) ∙ grind (arith, nat_tests))
+    ∙ ap (λ n. take n (drop i vs)) (omega arith)
+
+vectors-take : (n : ℕ) (bins : List Bin) → vectors (take n bins) ≡ take n (vectors bins)
+vectors-take zero bins = refl
+vectors-take (suc n) [] = refl
+vectors-take (suc n) (b ∷ bins) = ap (λ l. b.rows ∷ l) (vectors-take n bins)
+
+vectors-drop : (n : ℕ) (bins : List Bin) → vectors (drop n bins) ≡ drop n (vectors bins)
+vectors-drop zero bins = refl
+vectors-drop (suc n) [] = refl
+vectors-drop (suc n) (b ∷ bins) = vectors-drop n bins
+
+-- the union of the bins from i to j - 1, as they stand in the list
+pub union-run : (len i j : ℕ) (bins : List Bin) → union len (vectors (take (j - i) (drop i bins))) ≡ union_of len (in_run i j) (vectors bins)
+union-run len i j bins = ap (λ l. union len l) (vectors-take (j - i) (drop i bins) ∙ ap (λ l. take (j - i) l) (vectors-drop i bins) ∙ sym (chosen_run i j (in_run i j) (vectors bins) (λ b. refl)))
+
+pub union-front : (len w : ℕ) (bins : List Bin) → union len (vectors (take w bins)) ≡ union_of len (in_run 0 w) (vectors bins)
+union-front len w bins = ap (λ l. union len l) (vectors-take w bins ∙ sym (chosen_front w (in_run 0 w) (vectors bins) (λ b. grind (arith, nat_tests))))

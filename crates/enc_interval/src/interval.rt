@@ -83,13 +83,15 @@ impl Encoding for IntervalCode {
         mask: &Wah,
         steps: &mut Steps<L>,
     ) -> Result<Wah, AllocError> {
-        match (case_of(bins, first, end), fetched) {
-            (Case::Half, [half, ..]) => half.copy(alloc, steps),
-            (Case::More, [begin, last, ..]) => combined::<Or, L>(alloc, begin, last, steps),
-            (Case::Low, [begin, after, ..]) => combined::<AndNot, L>(alloc, begin, after, steps),
-            (Case::High, [before, last, ..]) => combined::<AndNot, L>(alloc, last, before, steps),
-            (Case::Middle, [last, begin, ..]) => combined::<And, L>(alloc, begin, last, steps),
-            _ => mask.copy(alloc, steps),
+        match fetched {
+            [] => mask.copy(alloc, steps),
+            [half] => half.copy(alloc, steps),
+            [a, b, ..] => match case_of(bins, first, end) {
+                Case::More => combined::<Or, L>(alloc, a, b, steps),
+                Case::Low => combined::<AndNot, L>(alloc, a, b, steps),
+                Case::High => combined::<AndNot, L>(alloc, b, a, steps),
+                _ => combined::<And, L>(alloc, a, b, steps),
+            },
         }
     }
 }

@@ -243,11 +243,10 @@ and_none true = refl
 and_none false = refl
 
 -- the bins of each class t of n classes from a on
-pub classes : ℕ → (ℕ → ℕ) → List (List Bool) → ℕ → ℕ → List (List Bool)
+abbrev pub classes : ℕ → (ℕ → ℕ) → List (List Bool) → ℕ → ℕ → List (List Bool)
 classes len class vs a n = map (λ t. union_of len (λ b. class b == t) vs) (range_with_len a n)
 
 classes_long : (len : ℕ) (class : ℕ → ℕ) (vs : List (List Bool)) (a n : ℕ) → All (λ x. length x ≡ len) vs → All (λ x. length x ≡ len) (classes len class vs a n)
-unfolding classes
 classes_long len class vs a zero h = none_long len
 classes_long len class vs a (suc n) h = more_long len (union_of len (λ b. class b == a) vs) (classes len class vs (a + 1) n) (length-union_of len (λ b. class b == a) vs h) (classes_long len class vs (a + 1) n h)
 
@@ -259,7 +258,7 @@ first_class set a n c = elim (c == a) as (λ t. (c == a) ≡ t → or (set (a + 
 
 -- a union of classes is the union of the bins whose class is in the set
 classes-union : (len : ℕ) (class : ℕ → ℕ) (vs : List (List Bool)) (set : ℕ → Bool) (a n : ℕ) → All (λ x. length x ≡ len) vs → AllApart vs → union_of len (λ t. set (a + t)) (classes len class vs a n) ≡ union_of len (λ b. in_run a (a + n) (class b) && set (class b)) vs
-unfolding classes union
+unfolding union
 classes-union len class vs set a zero h p = sym (union_of-same len (λ b. in_run a (a + 0) (class b) && set (class b)) (λ b. false) vs (λ b l. (let none : in_run a (a + 0) (class b) ≡ false = grind (arith, nat_tests) in ap (λ t. t && set (class b)) none)) ∙ union_of-none len vs)
 classes-union len class vs set a (suc n) h p =
     union_of-cons len (λ t. set (a + t)) (union_of len (λ b. class b == a) vs) (classes len class vs (a + 1) n) (classes_long len class vs a (suc n) h)
@@ -308,7 +307,6 @@ row_of_bin len set (v ∷ vs) row h e =
     | inr x ↦ (let r = row_of_bin len (λ b. set (suc b)) vs row (tail_long len v vs h) x in (suc (r.0), record { chosen = r.1.chosen; has = r.1.has })) ]
 
 class_at : (len : ℕ) (class : ℕ → ℕ) (vs : List (List Bool)) (a n t row : ℕ) → All (λ x. length x ≡ len) vs → get_or (get_or (classes len class vs a n) t []) row false ≡ true → (b : ℕ) × (class b ≡ a + t) × (get_or (get_or vs b []) row false ≡ true)
-unfolding classes
 class_at len class vs a zero t row h e = absurd (cc)
 class_at len class vs a (suc n) zero row h e = (let r = row_of_bin len (λ b. class b == a) vs row h e in (r.0, grind (arith, nat_tests, r.1.chosen), r.1.has))
 class_at len class vs a (suc n) (suc t) row h e = (let r = class_at len class vs (a + 1) n t row h e in (r.0, omega (arith, r.1), r.2))

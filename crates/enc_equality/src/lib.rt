@@ -4,7 +4,5 @@
 
 mod equality;
 
-pub use equality::Equality;
+pub use equality::{Equality, append_places};
 
-#[cfg(test)]
-mod tests;

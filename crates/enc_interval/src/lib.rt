@@ -8,5 +8,3 @@ mod sliding;
 
 pub use interval::IntervalCode;
 
-#[cfg(test)]
-mod tests;

@@ -7,5 +7,3 @@ mod range;
 
 pub use range::RangeCode;
 
-#[cfg(test)]
-mod tests;

@@ -11,3 +11,4 @@ pub mod Retold
 pub mod Laws
 pub mod Put
 pub mod Again
+pub mod MembersLemmas

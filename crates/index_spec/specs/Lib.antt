@@ -1,4 +1,5 @@
 pub mod Counts
+pub mod Members
 pub mod Words
 pub mod Tokens
 pub mod Options

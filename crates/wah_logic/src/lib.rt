@@ -13,7 +13,7 @@ mod unions;
 
 pub use has_rows::HasRows;
 pub use lockstep::{Lockstep, Pair};
-pub use logic::{combine, common, complement};
+pub use logic::{combine, combined, common, complement};
 pub use ops::{And, AndNot, BitOp, Or, Xor};
 pub use unions::or_many;
 

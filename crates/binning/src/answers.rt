@@ -1,0 +1,31 @@
+//! What a condition says of a range of values.
+ghost use Rattle.std.specs.Prelude.{◌≡◌, ◌≤ℤ◌};
+ghost use Rattle.binning.specs.Against.{against};
+
+use crate::span_lists::Spans;
+
+/// An answer over a range of values of which one is not known.
+#[derive(Clone, Copy, Debug, PartialEq, Eq)]
+pub enum Three {
+    /// Whichever value it is, the condition holds.
+    Yes,
+    /// Whichever value it is, the condition doesn't hold.
+    No,
+    Unknown,
+}
+
+/// Whether a value between `least` and `greatest` is in the spans: Yes where one span covers the range, No where none
+/// meets it, else Unknown.
+pub fn against(least: i128, greatest: i128, spans: &Spans) -> Three
+    requires { least ≤ℤ greatest }
+    ensures { result ≡ against least greatest spans.now }
+{
+    let list = spans.list();
+    if list.iter().any(|s| s.least <= least && greatest <= s.greatest) {
+        Three::Yes
+    } else if list.iter().any(|s| s.least <= greatest && least <= s.greatest) {
+        Three::Unknown
+    } else {
+        Three::No
+    }
+}

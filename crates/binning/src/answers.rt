@@ -2,7 +2,7 @@
 ghost use Rattle.std.specs.Prelude.{◌≡◌, ◌≤ℤ◌};
 ghost use Rattle.binning.specs.Against.{against};
 
-use crate::span_lists::Spans;
+use crate::span_lists::{Spans, first_reaching};
 
 /// An answer over a range of values of which one is not known.
 #[derive(Clone, Copy, Debug, PartialEq, Eq)]
@@ -21,11 +21,9 @@ pub fn against(least: i128, greatest: i128, spans: &Spans) -> Three
     ensures { result ≡ against least greatest spans.now }
 {
     let list = spans.list();
-    if list.iter().any(|s| s.least <= least && greatest <= s.greatest) {
-        Three::Yes
-    } else if list.iter().any(|s| s.least <= greatest && least <= s.greatest) {
-        Three::Unknown
-    } else {
-        Three::No
+    match list.get(first_reaching(list, least)) {
+        Some(span) if span.least <= least && greatest <= span.greatest => Three::Yes,
+        Some(span) if span.least <= greatest => Three::Unknown,
+        _ => Three::No,
     }
 }

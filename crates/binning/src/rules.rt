@@ -1,12 +1,14 @@
 //! Rules, which give each value the key that decides its bin.
-ghost use Rattle.std.specs.Prelude.{◌≡◌, ◌+◌, ◌≤◌, length, IfOk};
+ghost use Rattle.std.specs.Prelude.{◌≡◌, ◌+◌, ◌≤◌, count_by, length, IfOk};
 ghost use Rattle.std.specs.List.{AllByRecursion};
 ghost use Rattle.wah_words.specs.Spelling.{words_of};
 ghost use Rattle.index_spec.specs.Language.{IsGivenBinning};
-ghost use Rattle.binning.specs.Spans.{IsInRange};
-ghost use Rattle.binning.specs.Keys.{key, keying_of, IsKeying};
+ghost use Rattle.binning.specs.Spans.{IsInRange, int_le};
+ghost use Rattle.binning.specs.Keys.{key, keying_of, IsKeying, Rises};
 ghost use Rattle.binning.specs.Bins.{cells, present};
 
+use crate::bounds::{weights, width_bounds};
+use crate::digits::leading;
 use index_spec::Binning;
 use sqlite_items::Items;
 use std::alloc::{AllocError, Global};
@@ -60,12 +62,26 @@ pub fn make_rule<L: Ledger>(
     ensures kept { IfOk result (λ rule. IsKeying rule) }
     ensures steps { steps.new ≤ steps.old + words_of mask.now }
 {
-    let _ = alloc;
-    let _ = binning;
-    let _ = values;
-    let _ = mask;
-    let _ = steps;
-    Err(AllocError)
+    let keys = match binning {
+        Binning::Each => Keying::Each,
+        Binning::Bounds(bounds) => { Keying::Bounds(Items::from_slice(alloc, bounds.as_slice())?) }
+        Binning::Width { start, end, count } => {
+            Keying::Bounds(Items::from_vec(width_bounds(alloc, *start, *end, *count)?))
+        }
+        Binning::Weight { count } => {
+            Keying::Bounds(Items::from_vec(weights(alloc, values, mask, *count, steps)?))
+        }
+        Binning::Precision { digits } => Keying::Digits(*digits),
+    };
+    Ok(Rule { keys })
+}
+
+/// How many of the bounds, which rise, are at most the value.
+fn count_at_most(bounds: &[i128], v: i128) -> usize
+    requires { Rises bounds.now }
+    ensures { result ≡ count_by (λ b. int_le b v) bounds.now }
+{
+    bounds.partition_point(|bound| *bound <= v)
 }
 
 impl Rule {
@@ -74,14 +90,22 @@ impl Rule {
         requires { IsInRange v }
         ensures { result ≡ key self.now v }
     {
-        v
+        match &self.keys {
+            Keying::Each => v,
+            Keying::Bounds(bounds) => count_at_most(bounds.as_slice(), v) as i128,
+            Keying::Digits(digits) => leading(*digits, v),
+        }
     }
 
     /// The same rule again.
     pub fn copy(&self, alloc: Global) -> Result<Rule, AllocError>
         ensures { IfOk result (λ rule. rule ≡ self.now) }
     {
-        let _ = alloc;
-        Err(AllocError)
+        let keys = match &self.keys {
+            Keying::Each => Keying::Each,
+            Keying::Bounds(bounds) => Keying::Bounds(Items::from_slice(alloc, bounds.as_slice())?),
+            Keying::Digits(digits) => Keying::Digits(*digits),
+        };
+        Ok(Rule { keys })
     }
 }

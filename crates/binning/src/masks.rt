@@ -1,0 +1,78 @@
+//! Masks as truth values and rows.
+ghost use Rattle.std.specs.Prelude.{◌≡◌, ◌+◌, ◌≤◌, ◌++◌, length, OnOk, IfOk};
+ghost use Rattle.wah_words.specs.Places.{places};
+ghost use Rattle.wah_words.specs.Spelling.{words_of};
+ghost use Rattle.wah_words.specs.Left.{run_values};
+ghost use Rattle.binning.specs.Bins.{cells, present};
+
+use std::alloc::{AllocError, Global};
+use std::sync::ledger::Ledger;
+use steps::Steps;
+use wah_words::{Run, Wah};
+
+/// Appends the low `count` places of the number, the highest first.
+fn append_places(present: &mut Vec<bool>, bits: u32, count: u32) -> Result<(), AllocError>
+    requires { count ≤ 31 }
+    ensures { OnOk result (present.new.items ≡ present.old.items ++ places count bits) }
+{
+    let mut left = count;
+    while left > 0 {
+        left -= 1;
+        present.push((bits >> left) % 2 == 1)?;
+    }
+    Ok(())
+}
+
+/// Appends the values of a run.
+fn append_run(present: &mut Vec<bool>, run: Run) -> Result<(), AllocError>
+    requires { length (run_values run) ≤ 4194304 }
+    ensures { OnOk result (present.new.items ≡ present.old.items ++ run_values run) }
+{
+    match run {
+        Run::Fill { bit, groups } => {
+            let len = present.len() + 31 * groups as usize;
+            present.resize(len, bit)?;
+            Ok(())
+        }
+        Run::Literal(word) => append_places(present, word, 31),
+        Run::Tail { bits, count } => append_places(present, bits, count),
+    }
+}
+
+/// Appends the values of a vector.
+pub(crate) fn append_mask<L: Ledger>(
+    present: &mut Vec<bool>,
+    mask: &Wah,
+    steps: &mut Steps<L>,
+) -> Result<(), AllocError>
+    ensures values { OnOk result (present.new.items ≡ present.old.items ++ mask.now) }
+    ensures steps { steps.new ≤ steps.old + words_of mask.now }
+{
+    let mut cursor = mask.cursor();
+    while let Some(run) = cursor.advance(steps) {
+        append_run(present, run)?;
+    }
+    Ok(())
+}
+
+/// The values of the rows at which the mask is true.
+pub(crate) fn present_values<L: Ledger>(
+    alloc: Global,
+    values: &[i128],
+    mask: &Wah,
+    steps: &mut Steps<L>,
+) -> Result<Vec<i128>, AllocError>
+    requires { length values.now ≡ length mask.now }
+    ensures values { IfOk result (λ v. v.items ≡ present (cells mask.now values.now)) }
+    ensures steps { steps.new ≤ steps.old + words_of mask.now }
+{
+    let mut is_there = Vec::with_capacity(alloc, values.len())?;
+    append_mask(&mut is_there, mask, steps)?;
+    let mut found = Vec::new(alloc);
+    for (row, v) in values.iter().enumerate() {
+        if is_there[row] {
+            found.push(*v)?;
+        }
+    }
+    Ok(found)
+}

@@ -1,6 +1,6 @@
 -- What a gatherer keeps of a column, and when it is that of a column.
-use Rattle.std.specs.Prelude.{◌≡◌, ℕ, ◌<◌, ◌≤◌, Bool, false, not, ◌&&◌, ◌⊎◌, if◌then◌else◌, ⊤, List, [], ◌∷◌, length, map, Option, Some, None, All, ℤ, nat_eq}
-use Rattle.std.specs.List.{list_any, position_or_len, AllByRecursion}
+use Rattle.std.specs.Prelude.{◌≡◌, ℕ, suc, ◌<◌, ◌≤◌, Bool, false, not, ◌&&◌, ◌⊎◌, if◌then◌else◌, ⊤, List, [], ◌∷◌, length, map, Option, Some, None, All, ℤ, nat_eq}
+use Rattle.std.specs.List.{list_any, AllByRecursion}
 use Rattle.std.specs.Ordering.{int_eq}
 use Rattle.std.specs.HashMap.{get, HashMap}
 use Rattle.std.specs.declared.hash.FoldHasher.{FoldHasher}
@@ -28,6 +28,11 @@ abbrev pub AreDistinct : List ℤ → Type 0
 AreDistinct [] = ⊤
 AreDistinct (k ∷ ks) = (is_in k ks ≡ false) × AreDistinct ks
 
+-- the place of the first number of a list that is this one; how many there are, if none is
+abbrev pub place_in : ℤ → List ℤ → ℕ
+place_in k [] = 0
+place_in k (x ∷ ks) = if int_eq k x then 0 else suc (place_in k ks)
+
 -- the group of a key: the least and the greatest value with it
 abbrev pub group_of : Keying → List (Option ℤ) → ℤ → Group
 group_of keys column k = record {
@@ -39,7 +44,7 @@ group_of keys column k = record {
 -- the place of a cell's key among these; without a value 2^32 - 1
 abbrev pub place_of : Keying → List ℤ → Option ℤ → ℕ
 place_of keys ks None = 4294967295
-place_of keys ks (Some v) = position_or_len (int_eq (key keys v)) ks
+place_of keys ks (Some v) = place_in (key keys v) ks
 
 -- What is kept is that of the column: a group for each key that a value has, and the places of the rows.
 pub record Gathered (held : Held) (column : List (Option ℤ)) : Type 0 where
@@ -55,7 +60,7 @@ Known = HashMap ℤ ℕ (BuildHasherDefault FoldHasher)
 
 -- the map gives of each key its place among these
 abbrev pub Knows : Known → List ℤ → Type 0
-Knows known ks = (k : ℤ) → get int_eq known k ≡ (if is_in k ks then Some (position_or_len (int_eq k) ks) else None)
+Knows known ks = (k : ℤ) → get int_eq known k ≡ (if is_in k ks then Some (place_in k ks) else None)
 
 -- the place is that of a group, or of none
 abbrev pub IsPlace : ℕ → ℕ → Type 0

@@ -1,4 +1,5 @@
 pub mod Spans
+pub mod Joined
 pub mod Against
 pub mod Keys
 pub mod Gathered

@@ -37,10 +37,11 @@ has_number s = int_le s.least s.greatest
 abbrev pub HasNumber : Span → Type 0
 HasNumber s = s.least ≤ℤ s.greatest
 
--- no span begins below one before it
+-- no span begins below the one before it
 abbrev pub LeastsRise : List Span → Type 0
 LeastsRise [] = ⊤
-LeastsRise (s ∷ spans) = AllByRecursion (λ t. s.least ≤ℤ t.least) spans × LeastsRise spans
+LeastsRise (s ∷ []) = ⊤
+LeastsRise (s ∷ t ∷ spans) = (s.least ≤ℤ t.least) × LeastsRise (t ∷ spans)
 
 -- The place of the first span that reaches up to the number, or how many there are.
 pub record IsFirstReaching (spans : List Span) (v : ℤ) (place : ℕ) : Type 0 where

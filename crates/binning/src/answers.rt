@@ -21,9 +21,16 @@ pub fn against(least: i128, greatest: i128, spans: &Spans) -> Three
     ensures { result ≡ against least greatest spans.now }
 {
     let list = spans.list();
-    match list.get(first_reaching(list, least)) {
-        Some(span) if span.least <= least && greatest <= span.greatest => Three::Yes,
-        Some(span) if span.least <= greatest => Three::Unknown,
-        _ => Three::No,
+    let place = first_reaching(list, least);
+    if place >= list.len() {
+        return Three::No;
+    }
+    let span = list[place];
+    if span.least <= least && greatest <= span.greatest {
+        Three::Yes
+    } else if span.least <= greatest {
+        Three::Unknown
+    } else {
+        Three::No
     }
 }

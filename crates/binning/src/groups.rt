@@ -1,10 +1,7 @@
 //! The groups of a column's values, one for each key, and the rows of each group.
 ghost use Rattle.std.specs.Prelude.{◌≡◌, ◌+◌, ◌<◌, ◌≤◌, ◌==◌, ◌∷◌, [], ◌++◌, if◌then◌else◌, Some, None, map, length, replicate, slice_index_or, slice_set, vec_len, IfOk, OnOk, IfSome};
-ghost use Rattle.std.specs.Int.{int_min, int_max};
-ghost use Rattle.std.specs.List.{AllByRecursion, range_with_len, position_or_len};
-ghost use Rattle.std.specs.Ordering.{int_eq};
-ghost use Rattle.wah_iter.specs.Rows.{rows_of};
-ghost use Rattle.binning.specs.Gathered.{AreDistinct, keys_in, IsPlace, Knows};
+ghost use Rattle.std.specs.List.{AllByRecursion, range_with_len};
+ghost use Rattle.binning.specs.Gathered.{AreDistinct, place_in, keys_in, IsPlace, Knows};
 ghost use Rattle.binning.specs.Groups.{place_if, grown, with_value, rows_at, ByKey};
 
 use sqlite_items::Items;
@@ -43,12 +40,8 @@ fn grow(groups: &mut Vec<Group>, place: usize, v: i128)
     ensures { groups.new.items ≡ grown groups.old.items place v }
 {
     let group = &mut groups[place];
-    if v < group.least {
-        group.least = v;
-    }
-    if v > group.greatest {
-        group.greatest = v;
-    }
+    group.least = group.least.min(v);
+    group.greatest = group.greatest.max(v);
 }
 
 /// The place of a value's group, to which the value is added; a new group for a new key.
@@ -63,7 +56,7 @@ pub(crate) fn place(
     requires few { vec_len groups.old < 4194304 }
     requires distinct { AreDistinct (keys_in groups.old.items) }
     ensures groups { OnOk result (groups.new.items ≡ with_value groups.old.items key v) }
-    ensures place { IfOk result (λ place. place ≡ position_or_len (int_eq key) (keys_in groups.old.items)) }
+    ensures place { IfOk result (λ place. place ≡ place_in key (keys_in groups.old.items)) }
     ensures knows { OnOk result (Knows known.new (keys_in groups.new.items)) }
 {
     if let Some(place) = find(known, groups, last, key) {

@@ -1,7 +1,8 @@
 //! Sets of whole numbers as lists of spans.
-ghost use Rattle.std.specs.Prelude.{◌≡◌, ℤ, ◌∷◌, filter, IfOk};
+ghost use Rattle.std.specs.Prelude.{◌≡◌, ℤ, List, [], ◌∷◌, ◌++◌, filter, IfOk};
 ghost use Rattle.std.specs.List.{AllByRecursion};
-ghost use Rattle.binning.specs.Spans.{AreApart, has, IsSpanInRange, HasNumber, has_number, LeastsRise, IsFirstReaching};
+ghost use Rattle.binning.specs.Spans.{AreApart, has, IsInRange, IsSpanInRange, HasNumber, has_number, LeastsRise, IsFirstReaching};
+ghost use Rattle.binning.specs.Joined.{Joined};
 
 use std::alloc::{AllocError, Global};
 use std::marker::Model;
@@ -44,24 +45,41 @@ fn nonempty(alloc: Global, list: &[Span]) -> Result<Vec<Span>, AllocError>
     Ok(kept)
 }
 
+/// The span that is open after a further one, which begins no earlier. The open one is closed where a number stands
+/// between them.
+fn opened(items: &mut Vec<Span>, current: Span, span: Span) -> Result<Span, AllocError>
+    requires { IsInRange current.greatest }
+    ensures { IfOk result (λ next. (rest seen : List Span) → Joined items.old.items current (span ∷ rest) seen → Joined items.new.items next rest (seen ++ span ∷ [])) }
+{
+    if span.least > current.greatest + 1 {
+        items.push(current)?;
+        return Ok(span);
+    }
+    if span.greatest > current.greatest {
+        return Ok(Span {
+            least: current.least,
+            greatest: span.greatest,
+        });
+    }
+    Ok(current)
+}
+
 /// Spans that have a number each and stand in order of their least, joined where they overlap or touch.
-fn merged(alloc: Global, first: Span, rest: &[Span]) -> Result<Vec<Span>, AllocError>
-    requires numbers { AllByRecursion HasNumber (first ∷ rest.now) }
-    requires range { AllByRecursion IsSpanInRange (first ∷ rest.now) }
-    requires sorted { LeastsRise (first ∷ rest.now) }
-    ensures same { IfOk result (λ v. (x : ℤ) → has v.items x ≡ has (first ∷ rest.now) x) }
+fn merged(alloc: Global, spans: &[Span]) -> Result<Vec<Span>, AllocError>
+    requires numbers { AllByRecursion HasNumber spans.now }
+    requires range { AllByRecursion IsSpanInRange spans.now }
+    requires sorted { LeastsRise spans.now }
+    ensures same { IfOk result (λ v. (x : ℤ) → has v.items x ≡ has spans.now x) }
     ensures apart { IfOk result (λ v. AreApart v.items) }
     ensures within { IfOk result (λ v. AllByRecursion IsSpanInRange v.items) }
 {
     let mut items = Vec::new(alloc);
-    let mut current = first;
-    for span in rest {
-        if span.least > current.greatest + 1 {
-            items.push(current)?;
-            current = *span;
-        } else if span.greatest > current.greatest {
-            current.greatest = span.greatest;
-        }
+    if spans.len() == 0 {
+        return Ok(items);
+    }
+    let mut current = spans[0];
+    for span in spans {
+        current = opened(&mut items, current, *span)?;
     }
     items.push(current)?;
     Ok(items)
@@ -86,12 +104,7 @@ impl Spans {
     {
         let mut kept = nonempty(alloc, list)?;
         kept.sort_unstable_by_key(|span| span.least);
-        let Some((first, rest)) = kept.split_first() else {
-            return Ok(Spans {
-                items: Vec::new(alloc),
-            });
-        };
-        let items = merged(alloc, *first, rest)?;
+        let items = merged(alloc, &kept)?;
         Ok(Spans { items })
     }
 
@@ -108,9 +121,7 @@ impl Spans {
         ensures { result ≡ has self.now v }
     {
         let list = self.list();
-        match list.get(first_reaching(list, v)) {
-            Some(span) => span.least <= v,
-            None => false,
-        }
+        let place = first_reaching(list, v);
+        place < list.len() && list[place].least <= v
     }
 }

@@ -1,2 +1,5 @@
 pub mod TestLemmas
 pub mod SpanLemmas
+pub mod DigitLemmas
+pub mod MaskLemmas
+pub mod KeyLemmas

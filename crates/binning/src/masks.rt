@@ -1,8 +1,9 @@
 //! Masks as truth values and rows.
-ghost use Rattle.std.specs.Prelude.{◌≡◌, ◌+◌, ◌≤◌, ◌++◌, length, OnOk, IfOk};
+ghost use Rattle.std.specs.Prelude.{◌≡◌, ◌+◌, ◌≤◌, [], ◌∷◌, ◌++◌, if◌then◌else◌, length, OnOk, IfOk};
 ghost use Rattle.wah_words.specs.Places.{places};
 ghost use Rattle.wah_words.specs.Spelling.{words_of};
 ghost use Rattle.wah_words.specs.Left.{run_values};
+ghost use Rattle.wah_iter.specs.Runs.{Fits};
 ghost use Rattle.binning.specs.Bins.{cells, present};
 
 use std::alloc::{AllocError, Global};
@@ -25,7 +26,7 @@ fn append_places(present: &mut Vec<bool>, bits: u32, count: u32) -> Result<(), A
 
 /// Appends the values of a run.
 fn append_run(present: &mut Vec<bool>, run: Run) -> Result<(), AllocError>
-    requires { length (run_values run) ≤ 4194304 }
+    requires { Fits run }
     ensures { OnOk result (present.new.items ≡ present.old.items ++ run_values run) }
 {
     match run {
@@ -55,6 +56,16 @@ pub(crate) fn append_mask<L: Ledger>(
     Ok(())
 }
 
+/// Adds a value that is there.
+fn push_present(found: &mut Vec<i128>, is_there: bool, v: i128) -> Result<(), AllocError>
+    ensures { OnOk result (found.new.items ≡ found.old.items ++ (if is_there then v ∷ [] else [])) }
+{
+    if is_there {
+        found.push(v)?;
+    }
+    Ok(())
+}
+
 /// The values of the rows at which the mask is true.
 pub(crate) fn present_values<L: Ledger>(
     alloc: Global,
@@ -70,9 +81,7 @@ pub(crate) fn present_values<L: Ledger>(
     append_mask(&mut is_there, mask, steps)?;
     let mut found = Vec::new(alloc);
     for (row, v) in values.iter().enumerate() {
-        if is_there[row] {
-            found.push(*v)?;
-        }
+        push_present(&mut found, is_there[row], *v)?;
     }
     Ok(found)
 }

@@ -3,3 +3,5 @@ pub mod SpanLemmas
 pub mod DigitLemmas
 pub mod MaskLemmas
 pub mod KeyLemmas
+pub mod BoundLemmas
+pub mod GroupLemmas

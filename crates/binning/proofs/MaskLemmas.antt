@@ -32,3 +32,7 @@ present_push [] true v = refl
 present_push [] false v = refl
 present_push (None ∷ column) b v = present_push column b v
 present_push (Some w ∷ column) b v = ap (λ vs. w ∷ vs) (present_push column b v)
+
+pub present_more : (mask : List Bool) (vs : List ℤ) (i : ℕ) (b : Bool) (v : ℤ) → i < length mask → i < length vs → present (cells (take (i + 1) mask) (take (i + 1) vs)) ≡ present (cells (take i mask) (take i vs)) ++ cond (get_or mask i b) (get_or vs i v ∷ []) []
+present_more mask vs i b v h k =
+    ap present (cells_more mask vs i b v h k) ∙ present_push (cells (take i mask) (take i vs)) (get_or mask i b) (get_or vs i v)

@@ -1,5 +1,6 @@
 //! The bounds that cut a range, or sorted values, into parts.
-ghost use Rattle.std.specs.Prelude.{◌≡◌, ℤ, ◌+◌, ◌≤◌, ◌<ℤ◌, ◌||◌, true, length, OnOk, IfOk, ◌≤ℤ◌};
+ghost use Rattle.std.specs.Prelude.{◌≡◌, ℤ, ◌+◌, ◌≤◌, ◌*◌, ◌/◌, pos, ◌+ℤ◌, ◌<ℤ◌, ◌||◌, length, OnOk, IfOk, ◌≤ℤ◌};
+ghost use Rattle.std.specs.Int.{int_gap};
 ghost use Rattle.std.specs.List.{AllByRecursion};
 ghost use Rattle.std.specs.List.Sorted.{IsSorted};
 ghost use Rattle.std.specs.Ordering.{int_cmp, int_eq};
@@ -15,6 +16,16 @@ use std::sync::ledger::Ledger;
 use steps::Steps;
 use wah_words::Wah;
 
+/// Whether a bound that is at least each of the others is among them.
+fn has_bound(bounds: &[i128], bound: i128) -> bool
+    requires rises { Rises bounds.now }
+    requires least { AllByRecursion (λ b. b ≤ℤ bound) bounds.now }
+    ensures { result ≡ is_in bound bounds.now }
+{
+    let count = bounds.len();
+    count > 0 && bounds[count - 1] == bound
+}
+
 /// Adds a bound that is at least each of the others, unless it is among them.
 fn push_bound(bounds: &mut Vec<i128>, bound: i128) -> Result<(), AllocError>
     requires rises { Rises bounds.old.items }
@@ -23,13 +34,25 @@ fn push_bound(bounds: &mut Vec<i128>, bound: i128) -> Result<(), AllocError>
     ensures least { OnOk result (AllByRecursion (λ b. b ≤ℤ bound) bounds.new.items) }
     ensures has { OnOk result ((v : ℤ) → is_in v bounds.new.items ≡ (is_in v bounds.old.items || int_eq v bound)) }
 {
-    if let Some(last) = bounds.last() {
-        if *last == bound {
-            return Ok(());
-        }
+    if has_bound(bounds, bound) {
+        return Ok(());
     }
     bounds.push(bound)?;
     Ok(())
+}
+
+/// The j-th of the bounds of `count` equal widths.
+fn width_bound(start: i128, end: i128, count: u32, j: u32) -> i128
+    requires start { IsInRange start }
+    requires end { IsInRange end }
+    requires order { start <ℤ end }
+    requires some { 1 ≤ count }
+    requires few { j ≤ 100000 }
+    ensures { result ≡ (start +ℤ pos (j * int_gap start end / count)) }
+{
+    let width = end.abs_diff(start);
+    let above = u128::from(j) * width / u128::from(count);
+    start + above as i128
 }
 
 /// The bounds of `count` equal widths from `start` to `end`, cut down to whole numbers, each once.
@@ -46,11 +69,9 @@ pub(crate) fn width_bounds(
     requires few { count ≤ 100000 }
     ensures { IfOk result (λ bounds. bounds.items ≡ rising (width_bounds start end count)) }
 {
-    let width = (end - start) as u128;
     let mut bounds = Vec::new(alloc);
     for j in 0..count + 1 {
-        let above = u128::from(j) * width / u128::from(count);
-        push_bound(&mut bounds, start + above as i128)?;
+        push_bound(&mut bounds, width_bound(start, end, count, j))?;
     }
     Ok(bounds)
 }

@@ -79,6 +79,7 @@ pub(crate) fn present_values<L: Ledger>(
 {
     let mut is_there = Vec::with_capacity(alloc, values.len())?;
     append_mask(&mut is_there, mask, steps)?;
+    let is_there = is_there.as_slice();
     let mut found = Vec::new(alloc);
     for (row, v) in values.iter().enumerate() {
         push_present(&mut found, is_there[row], *v)?;

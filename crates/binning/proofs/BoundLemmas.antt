@@ -17,22 +17,22 @@ width_bound start end count j = start +ℤ pos (j * int_gap start end / count)
 abbrev pub weight_bound : ℕ → List ℤ → ℕ → ℤ
 weight_bound count vs j = get_or vs (j * length vs / count) (pos 0)
 
--- The bounds from the first-th to the one before the j-th, each once.
-pub record IsCut (bound : ℕ → ℤ) (first j : ℕ) (bounds : List ℤ) : Type 0 where
+-- The bounds from the first-th to the one before the j-th, each once, of those before the last-th.
+pub record IsCut (bound : ℕ → ℤ) (first last j : ℕ) (bounds : List ℤ) : Type 0 where
   pub rises : Rises bounds
   pub has : (v : ℤ) → is_in v bounds ≡ is_in v (map bound (range_with_len first (j - first)))
-  pub least : AllByRecursion (λ b. b ≤ℤ bound j) bounds
+  pub least : j < last → AllByRecursion (λ b. b ≤ℤ bound j) bounds
 
-pub cut_start : (bound : ℕ → ℤ) (first : ℕ) (bounds : List ℤ) → bounds ≡ [] → IsCut bound first first bounds
-cut_start bound first bounds e =
+pub cut_start : (bound : ℕ → ℤ) (first last : ℕ) (bounds : List ℤ) → bounds ≡ [] → IsCut bound first last first bounds
+cut_start bound first last bounds e =
     let n : first - first ≡ 0 = omega arith in
-    record { rises = rw e tt; has = λ v. rw (e, n) refl; least = rw e tt }
+    record { rises = rw e tt; has = λ v. rw (e, n) refl; least = λ h. rw e tt }
 
-pub cut_more : (bound : ℕ → ℤ) (first j : ℕ) (old new : List ℤ) → first ≤ j → IsCut bound first j old → bound j ≤ℤ bound (j + 1) → Rises new → AllByRecursion (λ b. b ≤ℤ bound j) new → ((v : ℤ) → is_in v new ≡ (is_in v old || int_eq v (bound j))) → IsCut bound first (j + 1) new
-cut_more bound first j old new low cut up rises least has = record {
+pub cut_more : (bound : ℕ → ℤ) (first last j : ℕ) (old new : List ℤ) → first ≤ j → IsCut bound first last j old → (j + 1 < last → bound j ≤ℤ bound (j + 1)) → Rises new → AllByRecursion (λ b. b ≤ℤ bound j) new → ((v : ℤ) → is_in v new ≡ (is_in v old || int_eq v (bound j))) → IsCut bound first last (j + 1) new
+cut_more bound first last j old new low cut up rises least has = record {
   rises = rises;
   has = λ v. has v ∙ ap (λ b. b || int_eq v (bound j)) (cut.has v) ∙ sym (is_in-append v (map bound (range_with_len first (j - first))) (bound j)) ∙ ap (λ xs. is_in v xs) (longer bound first j low);
-  least = all_le_up (bound j) (bound (j + 1)) new up least;
+  least = λ h. all_le_up (bound j) (bound (j + 1)) new (up h) least;
 }
   where
     longer : (bound : ℕ → ℤ) (first j : ℕ) → first ≤ j → map bound (range_with_len first (j - first)) ++ bound j ∷ [] ≡ map bound (range_with_len first (j + 1 - first))
@@ -40,8 +40,8 @@ cut_more bound first j old new low cut up rises least has = record {
         let e : j - first + 1 ≡ j + 1 - first = omega arith in
         sym (map-range_with_len_more bound first (j - first) j (omega arith)) ∙ ap (λ n. map bound (range_with_len first n)) e
 
-pub cut_end : (bound : ℕ → ℤ) (first j n : ℕ) (bounds : List ℤ) → IsCut bound first j bounds → j - first ≡ n → bounds ≡ rising (map bound (range_with_len first n))
-cut_end bound first j n bounds cut e = rising_from bounds (map bound (range_with_len first n)) cut.rises (λ v. cut.has v ∙ ap (λ m. is_in v (map bound (range_with_len first m))) e)
+pub cut_end : (bound : ℕ → ℤ) (first last j n : ℕ) (bounds : List ℤ) → IsCut bound first last j bounds → j - first ≡ n → bounds ≡ rising (map bound (range_with_len first n))
+cut_end bound first last j n bounds cut e = rising_from bounds (map bound (range_with_len first n)) cut.rises (λ v. cut.has v ∙ ap (λ m. is_in v (map bound (range_with_len first m))) e)
 
 -- ---- sizes
 
@@ -73,7 +73,8 @@ part_fits j w count h k some =
 pub place_below : (j m count : ℕ) → j < count → 0 < m → j * m / count < m
 place_below j m count h some =
     let d = mul-div-le (j * m) count in
-    let l : (j + 1) * m ≤ count * m = mul-le-mul_right m h in
+    let s : j + 1 ≤ count = omega arith in
+    let l : (j + 1) * m ≤ count * m = mul-le-mul_right m s in
     by_contradiction j m count (j * m / count) some d l
   where
     by_contradiction : (j m count q : ℕ) → 0 < m → count * q ≤ j * m → (j + 1) * m ≤ count * m → q < m

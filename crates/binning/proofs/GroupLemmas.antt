@@ -128,3 +128,30 @@ keys_push (x ∷ gs) g = ap (λ ks. x.key ∷ ks) (keys_push gs g)
 
 pub keys_new : (gs : List Group) (k v : ℤ) → is_in k (keys_in gs) ≡ false → keys_in (with_value gs k v) ≡ keys_in gs ++ k ∷ []
 keys_new gs k v h = ap keys_in (with_new gs k v h) ∙ keys_push gs (record { key = k; least = v; greatest = v })
+
+-- what an answer of the map says
+pub place_found : (k : ℤ) (ks : List ℤ) (p : ℕ) → Some p ≡ place_if k ks → (is_in k ks ≡ true) × (p ≡ place_in k ks)
+place_found k ks p e =
+    either (is_in k ks)
+      (λ t. (t, some_same p (place_in k ks) (e ∙ (rw t refl))))
+      (λ f. absurd (some_none p (e ∙ (rw f refl))))
+  where
+    some_same : (a b : ℕ) → Some a ≡ Some b → a ≡ b
+    some_same a b e = cc
+    some_none : (a : ℕ) → Some a ≡ None → ⊥
+    some_none a e = cc
+
+pub place_missing : (k : ℤ) (ks : List ℤ) → None ≡ place_if k ks → is_in k ks ≡ false
+place_missing k ks e =
+    either (is_in k ks)
+      (λ t. absurd (none_some (place_in k ks) (e ∙ (rw t refl))))
+      (λ f. f)
+  where
+    none_some : (a : ℕ) → None ≡ Some a → ⊥
+    none_some a e = cc
+
+pub length-keys_in : (gs : List Group) → length (keys_in gs) ≡ length gs
+length-keys_in gs = length-map gs (λ g. g.key)
+
+pub grown_set_at : (gs : List Group) (place : ℕ) (v : ℤ) (g : Group) → place < length gs → g ≡ get_or gs place g → set gs place (grown_group g v) ≡ grown gs place v
+grown_set_at gs place v g within e = ap (λ x. set gs place (grown_group x v)) e ∙ grown_set gs place v g within

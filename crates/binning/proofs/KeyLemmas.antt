@@ -15,7 +15,11 @@ use Rattle.std.specs.List.{count_by}
 use Rattle.std.specs.List.Sorted.{IsPartitionedBy, IsPartitionPoint}
 use mir.Val.{SFits, of_z, to_z}
 use Rattle.binning.specs.Spans.{int_le}
-use Rattle.binning.specs.Keys.{put, rising, placed, sorted, Rises}
+use Rattle.index_spec.specs.Meaning.{rises}
+use Rattle.index_spec.specs.Language.{IsGivenBinning}
+use Rattle.index_spec.specs.declared.spec.Binning.{Binning}
+use Rattle.index_spec.specs.declared.spec.Binning.TheVariants as binning
+use Rattle.binning.specs.Keys.{put, rising, placed, sorted, Rises, IsKeying, keying_of, width_bounds, weight_bounds}
 use Rattle.binning.specs.Gathered.{is_in}
 use Rattle.binning.proofs.TestLemmas.{either, not_both, or-false}
 
@@ -37,10 +41,10 @@ lt_not_eq a b h = eq_false a b (λ e. let z : a ≡ b = e in omega (arith, ints)
 pub gt_not_eq : (a b : ℤ) → b <ℤ a → int_eq a b ≡ false
 gt_not_eq a b h = eq_false a b (λ e. let z : a ≡ b = e in omega (arith, ints))
 
-or_left : (a b : Bool) → a ≡ true → (a || b) ≡ true
+pub or_left : (a b : Bool) → a ≡ true → (a || b) ≡ true
 or_left a b h = rw h refl
 
-or_right : (a b : Bool) → a ≡ false → (a || b) ≡ b
+pub or_right : (a b : Bool) → a ≡ false → (a || b) ≡ b
 or_right a b h = rw h refl
 
 lt_of : (a b : ℤ) → int_lt a b ≡ true → a <ℤ b
@@ -346,3 +350,20 @@ count_point p (x ∷ xs) (suc n) short point =
     let t : p x ≡ true = point.0 0 x (omega arith) (omega arith) in
     let rest = count_point p xs n (omega arith) ((λ k d low high. point.0 (suc k) d (omega arith) (omega arith)), (λ k d low high. point.1 (suc k) d (omega arith) (omega arith))) in
     sum_by-cons (λ x. cond (p x) 1 0) x xs ∙ (rw (t, rest) (omega arith))
+
+-- ---- what each rule keeps
+
+rises_of : (bounds : List ℤ) → rises bounds ≡ true → Rises bounds
+rises_of [] h = tt
+rises_of (x ∷ []) h = tt
+rises_of (x ∷ y ∷ bounds) h =
+    either (int_lt x y)
+      (λ t. (lt_of x y t, rises_of (y ∷ bounds) (rw t at h)))
+      (λ f. absurd (not_both (sym (rw f at h)) refl))
+
+pub kept_of : (b : Binning) (vs : List ℤ) → IsGivenBinning b → IsKeying (keying_of b vs)
+kept_of binning.Each vs given = tt
+kept_of (binning.Bounds bounds) vs given = rises_of bounds given.2
+kept_of (binning.Width start end count) vs given = rising-Rises (width_bounds start end count)
+kept_of (binning.Weight count) vs given = rising-Rises (weight_bounds count (sorted vs))
+kept_of (binning.Precision digits) vs given = given

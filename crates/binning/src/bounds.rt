@@ -85,7 +85,7 @@ fn weight_bounds(alloc: Global, sorted: &[i128], count: u32) -> Result<Vec<i128>
     ensures { IfOk result (λ bounds. bounds.items ≡ rising (weight_bounds count sorted.now)) }
 {
     let mut bounds = Vec::new(alloc);
-    if sorted.is_empty() {
+    if sorted.len() == 0 {
         return Ok(bounds);
     }
     for j in 1..count {

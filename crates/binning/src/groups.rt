@@ -1,7 +1,7 @@
 //! The groups of a column's values, one for each key, and the rows of each group.
-ghost use Rattle.std.specs.Prelude.{◌≡◌, ◌+◌, ◌<◌, ◌≤◌, ◌==◌, ◌∷◌, [], ◌++◌, if◌then◌else◌, Some, None, map, length, replicate, slice_index_or, slice_set, vec_len, IfOk, OnOk, IfSome};
+ghost use Rattle.std.specs.Prelude.{◌≡◌, ◌+◌, ◌<◌, ◌≤◌, ◌==◌, ◌∷◌, [], ◌++◌, if◌then◌else◌, Some, None, map, length, replicate, slice_index_or, slice_set, vec_len, false, IfOk, OnOk, IfSome};
 ghost use Rattle.std.specs.List.{AllByRecursion, range_with_len};
-ghost use Rattle.binning.specs.Gathered.{AreDistinct, place_in, keys_in, IsPlace, Knows};
+ghost use Rattle.binning.specs.Gathered.{AreDistinct, is_in, place_in, keys_in, IsPlace, Knows};
 ghost use Rattle.binning.specs.Groups.{place_if, grown, with_value, rows_at, ByKey};
 
 use sqlite_items::Items;
@@ -36,12 +36,36 @@ fn find(known: &HashMap<i128, u32>, groups: &[Group], last: usize, key: i128) ->
 /// Adds a value to its group.
 #[inline(always)]
 fn grow(groups: &mut Vec<Group>, place: usize, v: i128)
-    requires { place < vec_len groups.old }
+    requires { place < length groups.old.items }
     ensures { groups.new.items ≡ grown groups.old.items place v }
 {
     let group = &mut groups[place];
     group.least = group.least.min(v);
     group.greatest = group.greatest.max(v);
+}
+
+/// A new group for a new key, and its place.
+fn add_group(
+    known: &mut HashMap<i128, u32>,
+    groups: &mut Vec<Group>,
+    key: i128,
+    v: i128,
+) -> Result<u32, AllocError>
+    requires knows { Knows known.old (keys_in groups.old.items) }
+    requires few { length groups.old.items < 4194304 }
+    requires absent { is_in key (keys_in groups.old.items) ≡ false }
+    ensures groups { OnOk result (groups.new.items ≡ with_value groups.old.items key v) }
+    ensures place { IfOk result (λ place. place ≡ length groups.old.items) }
+    ensures knows { OnOk result (Knows known.new (keys_in groups.new.items)) }
+{
+    let place = groups.len() as u32;
+    known.insert(key, place)?;
+    groups.push(Group {
+        key,
+        least: v,
+        greatest: v,
+    })?;
+    Ok(place)
 }
 
 /// The place of a value's group, to which the value is added; a new group for a new key.
@@ -53,24 +77,19 @@ pub(crate) fn place(
     v: i128,
 ) -> Result<u32, AllocError>
     requires knows { Knows known.old (keys_in groups.old.items) }
-    requires few { vec_len groups.old < 4194304 }
+    requires few { length groups.old.items < 4194304 }
     requires distinct { AreDistinct (keys_in groups.old.items) }
     ensures groups { OnOk result (groups.new.items ≡ with_value groups.old.items key v) }
     ensures place { IfOk result (λ place. place ≡ place_in key (keys_in groups.old.items)) }
     ensures knows { OnOk result (Knows known.new (keys_in groups.new.items)) }
 {
-    if let Some(place) = find(known, groups, last, key) {
-        grow(groups, place as usize, v);
-        return Ok(place);
+    match find(known, groups, last, key) {
+        Some(place) => {
+            grow(groups, place as usize, v);
+            Ok(place)
+        }
+        None => add_group(known, groups, key, v),
     }
-    let place = groups.len() as u32;
-    known.insert(key, place)?;
-    groups.push(Group {
-        key,
-        least: v,
-        greatest: v,
-    })?;
-    Ok(place)
 }
 
 /// How many rows have each of `count` places.

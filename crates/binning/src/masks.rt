@@ -1,5 +1,5 @@
 //! Masks as truth values and rows.
-ghost use Rattle.std.specs.Prelude.{◌≡◌, ◌+◌, ◌≤◌, [], ◌∷◌, ◌++◌, if◌then◌else◌, length, OnOk, IfOk};
+ghost use Rattle.std.specs.Prelude.{◌≡◌, ◌+◌, ◌≤◌, [], ◌∷◌, ◌++◌, if◌then◌else◌, length, vec_len, OnOk, IfOk};
 ghost use Rattle.wah_words.specs.Places.{places};
 ghost use Rattle.wah_words.specs.Spelling.{words_of};
 ghost use Rattle.wah_words.specs.Left.{run_values};
@@ -58,7 +58,8 @@ pub(crate) fn append_mask<L: Ledger>(
 
 /// Adds a value that is there.
 fn push_present(found: &mut Vec<i128>, is_there: bool, v: i128) -> Result<(), AllocError>
-    ensures { OnOk result (found.new.items ≡ found.old.items ++ (if is_there then v ∷ [] else [])) }
+    ensures items { OnOk result (found.new.items ≡ found.old.items ++ (if is_there then v ∷ [] else [])) }
+    ensures len { OnOk result (vec_len found.new ≤ vec_len found.old + 1) }
 {
     if is_there {
         found.push(v)?;
@@ -75,8 +76,10 @@ pub(crate) fn present_values<L: Ledger>(
 ) -> Result<Vec<i128>, AllocError>
     requires { length values.now ≡ length mask.now }
     ensures values { IfOk result (λ v. v.items ≡ present (cells mask.now values.now)) }
+    ensures few { IfOk result (λ v. vec_len v ≤ 4194304) }
     ensures steps { steps.new ≤ steps.old + words_of mask.now }
 {
+    let _rows = mask.len();
     let mut is_there = Vec::with_capacity(alloc, values.len())?;
     append_mask(&mut is_there, mask, steps)?;
     let is_there = is_there.as_slice();

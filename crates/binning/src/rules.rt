@@ -46,6 +46,37 @@ impl Model for Rule {
     ghost invariant = { λ r. IsKeying r.keys };
 }
 
+/// The keys that a binning says over a column.
+fn keys_said<L: Ledger>(
+    alloc: Global,
+    binning: &Binning,
+    values: &[i128],
+    mask: &Wah,
+    steps: &mut Steps<L>,
+) -> Result<Keying, AllocError>
+    requires given { IsGivenBinning binning.now }
+    requires same { length values.now ≡ length mask.now }
+    ensures keys { IfOk result (λ keys. keys ≡ keying_of binning.now (present (cells mask.now values.now))) }
+    ensures steps { steps.new ≤ steps.old + words_of mask.now }
+{
+    match binning {
+        Binning::Each => Ok(Keying::Each),
+        Binning::Bounds(bounds) => {
+            let bounds = Items::from_slice(alloc, bounds.as_slice())?;
+            Ok(Keying::Bounds(bounds))
+        }
+        Binning::Width { start, end, count } => {
+            let bounds = width_bounds(alloc, *start, *end, *count)?;
+            Ok(Keying::Bounds(Items::from_vec(bounds)))
+        }
+        Binning::Weight { count } => {
+            let bounds = weights(alloc, values, mask, *count, steps)?;
+            Ok(Keying::Bounds(Items::from_vec(bounds)))
+        }
+        Binning::Precision { digits } => Ok(Keying::Digits(*digits)),
+    }
+}
+
 /// The rule of a binning over a column, whose values lie between -2^63 and 2^64 - 1. Only binning by weight looks at
 /// the values, and of these only at those where the mask is true.
 pub fn make_rule<L: Ledger>(
@@ -62,17 +93,7 @@ pub fn make_rule<L: Ledger>(
     ensures kept { IfOk result (λ rule. IsKeying rule) }
     ensures steps { steps.new ≤ steps.old + words_of mask.now }
 {
-    let keys = match binning {
-        Binning::Each => Keying::Each,
-        Binning::Bounds(bounds) => { Keying::Bounds(Items::from_slice(alloc, bounds.as_slice())?) }
-        Binning::Width { start, end, count } => {
-            Keying::Bounds(Items::from_vec(width_bounds(alloc, *start, *end, *count)?))
-        }
-        Binning::Weight { count } => {
-            Keying::Bounds(Items::from_vec(weights(alloc, values, mask, *count, steps)?))
-        }
-        Binning::Precision { digits } => Keying::Digits(*digits),
-    };
+    let keys = keys_said(alloc, binning, values, mask, steps)?;
     Ok(Rule { keys })
 }
 

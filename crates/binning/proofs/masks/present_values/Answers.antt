@@ -15,4 +15,7 @@ loop-row-preserved g c =
     let same : mask ≡ c.args.mask.now = search rules in
     let there : i < length mask = rw same (omega arith) in
     let fits : SFits w128 (get_or vs i (pos 0)) = search rules in
-    c.in_ok-push_present.ensures ∙ (simp to_z-of_z (rw c.loop-row.invariant (sym (present_more mask vs i false (pos 0) there within))))
+    record {
+      values = c.in_ok-push_present.ensures.items ∙ (simp to_z-of_z (rw c.loop-row.invariant.values (sym (present_more mask vs i false (pos 0) there within))));
+      few = omega (arith, c.in_ok-push_present.ensures.len, c.loop-row.invariant.few);
+    }

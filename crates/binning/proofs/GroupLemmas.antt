@@ -6,8 +6,8 @@ use Rattle.std.specs.Ordering.{int_eq}
 use Rattle.std.proofs.lemmas.List.{length-map}
 use Rattle.binning.specs.Keys.{key}
 use Rattle.binning.specs.Bins.{present, values_with, least_of, greatest_of}
-use Rattle.binning.specs.Gathered.{Held, Gathered, keys_in, is_in, AreDistinct, place_in, place_of, group_of}
-use Rattle.binning.specs.Groups.{place_if, grown, grown_group, with_value}
+use Rattle.binning.specs.Gathered.{Held, Gathered, keys_in, is_in, AreDistinct, place_in, place_of, group_of, grown_group, with_value, groups_after}
+use Rattle.binning.specs.Groups.{place_if, grown}
 use Rattle.binning.specs.declared.groups.Group.{Group}
 use Rattle.binning.specs.declared.rules.Keying.{Keying}
 use Rattle.binning.proofs.TestLemmas.{either, not_both, or-false}

@@ -20,7 +20,7 @@ use Rattle.index_spec.specs.Language.{IsGivenBinning}
 use Rattle.index_spec.specs.declared.spec.Binning.{Binning}
 use Rattle.index_spec.specs.declared.spec.Binning.TheVariants as binning
 use Rattle.binning.specs.Keys.{put, rising, placed, sorted, Rises, IsKeying, keying_of, width_bounds, weight_bounds}
-use Rattle.binning.specs.Gathered.{is_in}
+use Rattle.binning.specs.Gathered.{is_in, AreDistinct}
 use Rattle.binning.proofs.TestLemmas.{either, not_both, or-false}
 
 pub eq_from : (a b : ℤ) → int_eq a b ≡ true → a ≡ b
@@ -359,7 +359,7 @@ rises_of (x ∷ []) h = tt
 rises_of (x ∷ y ∷ bounds) h =
     either (int_lt x y)
       (λ t. (lt_of x y t, rises_of (y ∷ bounds) (rw t at h)))
-      (λ f. absurd (not_both (sym (rw f at h)) refl))
+      (λ f. let z : false ≡ true = rw f at h in absurd (cc))
 
 pub kept_of : (b : Binning) (vs : List ℤ) → IsGivenBinning b → IsKeying (keying_of b vs)
 kept_of binning.Each vs given = tt
@@ -367,3 +367,30 @@ kept_of (binning.Bounds bounds) vs given = rises_of bounds given.2
 kept_of (binning.Width start end count) vs given = rising-Rises (width_bounds start end count)
 kept_of (binning.Weight count) vs given = rising-Rises (weight_bounds count (sorted vs))
 kept_of (binning.Precision digits) vs given = given
+
+-- numbers in order of which none stands twice rise
+pub strict_of : (xs : List ℤ) → Weak xs → ((v : ℤ) → occurs v xs ≤ 1) → Rises xs
+strict_of [] w once = tt
+strict_of (x ∷ []) w once = tt
+strict_of (x ∷ y ∷ xs) w once = (apart x y xs w.0 (once x), strict_of (y ∷ xs) w.1 (λ v. let a = occurs-cons v x (y ∷ xs) in let b = once v in omega arith))
+  where
+    apart : (x y : ℤ) (xs : List ℤ) → x ≤ℤ y → occurs x (x ∷ y ∷ xs) ≤ 1 → x <ℤ y
+    apart x y xs h once =
+        either (int_eq y x)
+          (λ t. let a = occurs-self x (y ∷ xs) in
+            let b : occurs x (y ∷ xs) ≡ 1 + occurs x xs = occurs-cons x y xs ∙ (rw (eq_swap x y, t) refl) in absurd (omega arith))
+          (λ f. strict x y h f)
+
+pub occurs-none : (v : ℤ) (xs : List ℤ) → is_in v xs ≡ false → occurs v xs ≡ 0
+occurs-none v [] h = refl
+occurs-none v (x ∷ xs) h = let f = or_no (int_eq v x) (is_in v xs) h in occurs-cons v x xs ∙ (rw (f.0, occurs-none v xs f.1) refl)
+
+pub occurs-distinct : (v : ℤ) (xs : List ℤ) → AreDistinct xs → occurs v xs ≤ 1
+occurs-distinct v [] apart = omega arith
+occurs-distinct v (x ∷ xs) apart =
+    let a = occurs-cons v x xs in
+    let rest = occurs-distinct v xs apart.1 in
+    either (int_eq v x)
+      (λ t. let n : occurs v xs ≡ 0 = rw (eq_from v x t) (occurs-none x xs apart.0) in
+        let c : cond (int_eq v x) 1 0 ≡ 1 = rw t refl in omega arith)
+      (λ f. let c : cond (int_eq v x) 1 0 ≡ 0 = rw f refl in omega arith)

@@ -1,6 +1,7 @@
 -- What a gatherer keeps of a column, and when it is that of a column.
 use Rattle.std.specs.Prelude.{◌≡◌, ℕ, suc, ◌<◌, ◌≤◌, Bool, false, not, ◌&&◌, ◌⊎◌, if◌then◌else◌, ⊤, List, [], ◌∷◌, length, map, Option, Some, None, All, ℤ, nat_eq}
 use Rattle.std.specs.List.{list_any, AllByRecursion}
+use Rattle.std.specs.Int.{int_min, int_max}
 use Rattle.std.specs.Ordering.{int_eq}
 use Rattle.std.specs.HashMap.{get, HashMap}
 use Rattle.std.specs.declared.hash.FoldHasher.{FoldHasher}
@@ -62,6 +63,17 @@ Known = HashMap ℤ ℕ (BuildHasherDefault FoldHasher)
 abbrev pub Knows : Known → List ℤ → Type 0
 Knows known ks = (k : ℤ) → get int_eq known k ≡ (if is_in k ks then Some (place_in k ks) else None)
 
--- the place is that of a group, or of none
-abbrev pub IsPlace : ℕ → ℕ → Type 0
-IsPlace count place = (place < count) ⊎ (place ≡ 4294967295)
+-- ---- one more row
+
+abbrev pub grown_group : Group → ℤ → Group
+grown_group g v = record { key = g.key; least = int_min g.least v; greatest = int_max g.greatest v }
+
+-- the groups with a further value of this key, whose group is the last where it is new
+abbrev pub with_value : List Group → ℤ → ℤ → List Group
+with_value [] k v = record { key = k; least = v; greatest = v } ∷ []
+with_value (g ∷ groups) k v = if int_eq k g.key then grown_group g v ∷ groups else g ∷ with_value groups k v
+
+-- the groups with the value of a further cell
+abbrev pub groups_after : Keying → List Group → Option ℤ → List Group
+groups_after keys gs None = gs
+groups_after keys gs (Some v) = with_value gs (key keys v) v

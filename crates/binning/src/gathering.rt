@@ -1,10 +1,10 @@
 //! The bins of a column, gathered block by block.
-ghost use Rattle.std.specs.Prelude.{◌≡◌, ℤ, ◌+◌, ◌<◌, ◌≤◌, List, Option, [], ◌++◌, length, map, IfOk};
+ghost use Rattle.std.specs.Prelude.{◌≡◌, ℤ, ◌+◌, ◌<◌, ◌≤◌, List, Option, Some, None, [], ◌∷◌, ◌++◌, if◌then◌else◌, length, map, IfOk, IfSome, OnOk};
 ghost use Rattle.std.specs.List.{AllByRecursion, range_with_len};
 ghost use Rattle.wah_words.specs.Spelling.{words_of};
 ghost use Rattle.binning.specs.Spans.{IsInRange};
 ghost use Rattle.binning.specs.Bins.{cells, bins_of};
-ghost use Rattle.binning.specs.Gathered.{Gathered};
+ghost use Rattle.binning.specs.Gathered.{Gathered, Knows, AreDistinct, keys_in, place_of, groups_after};
 ghost use Rattle.binning.specs.Groups.{rows_at};
 ghost use Rattle.binning.specs.BinFor.{bin_for};
 
@@ -41,14 +41,48 @@ pub struct Gatherer {
 
 impl Model for Gatherer {
     ghost use Rattle.std.specs.Prelude.{◌≤◌, length};
-    ghost use Rattle.std.specs.List.{AllByRecursion};
-    ghost use Rattle.binning.specs.Gathered.{Held, Knows, keys_in, AreDistinct, IsPlace};
+    ghost use Rattle.binning.specs.Gathered.{Held, Knows, keys_in, AreDistinct};
 
     ghost Value = { Held };
 
     ghost view = { λ g. record { rule = g.rule; groups = g.groups.items; places = g.places.items } };
 
-    ghost invariant = { λ g. Knows g.known (keys_in g.groups.items) × AreDistinct (keys_in g.groups.items) × AllByRecursion (IsPlace (length g.groups.items)) g.places.items × (length g.groups.items ≤ length g.places.items) × (length g.places.items ≤ 4194304) };
+    ghost invariant = { λ g. Knows g.known (keys_in g.groups.items) × AreDistinct (keys_in g.groups.items) × (length g.groups.items ≤ length g.places.items) × (length g.places.items ≤ 4194304) };
+}
+
+/// The value of a row, where there is one.
+#[inline(always)]
+fn cell(is_there: bool, v: i128) -> Option<i128>
+    ensures { result ≡ (if is_there then Some v else None) }
+{
+    if is_there { Some(v) } else { None }
+}
+
+/// Adds a row, and tells its place. The group at `last` is looked at first.
+#[inline(always)]
+fn put_row(
+    known: &mut HashMap<i128, u32>,
+    groups: &mut Vec<Group>,
+    places: &mut Vec<u32>,
+    rule: &Rule,
+    last: u32,
+    cell: Option<i128>,
+) -> Result<u32, AllocError>
+    requires within { IfSome cell IsInRange }
+    requires knows { Knows known.old (keys_in groups.old.items) }
+    requires distinct { AreDistinct (keys_in groups.old.items) }
+    requires few { length groups.old.items < 4194304 }
+    ensures groups { OnOk result (groups.new.items ≡ groups_after rule.now groups.old.items cell) }
+    ensures places { OnOk result (places.new.items ≡ places.old.items ++ place_of rule.now (keys_in groups.old.items) cell ∷ []) }
+    ensures knows { OnOk result (Knows known.new (keys_in groups.new.items)) }
+{
+    let Some(v) = cell else {
+        places.push(NO_PLACE)?;
+        return Ok(NO_PLACE);
+    };
+    let at_place = place(known, groups, last as usize, rule.key(v), v)?;
+    places.push(at_place)?;
+    Ok(at_place)
 }
 
 impl Gatherer {
@@ -92,14 +126,11 @@ impl Gatherer {
         } = self;
         let mut is_there = Vec::with_capacity(alloc, values.len())?;
         append_mask(&mut is_there, present, steps)?;
+        let is_there = is_there.as_slice();
         let mut last = NO_PLACE;
         for (row, v) in values.iter().enumerate() {
-            if is_there[row] {
-                last = place(&mut known, &mut groups, last as usize, rule.key(*v), *v)?;
-                places.push(last)?;
-            } else {
-                places.push(NO_PLACE)?;
-            }
+            let cell = cell(is_there[row], *v);
+            last = put_row(&mut known, &mut groups, &mut places, &rule, last, cell)?;
         }
         Ok(Gatherer {
             alloc,

@@ -1,8 +1,8 @@
 //! The groups of a column's values, one for each key, and the rows of each group.
 ghost use Rattle.std.specs.Prelude.{◌≡◌, ◌+◌, ◌<◌, ◌≤◌, ◌==◌, ◌∷◌, [], ◌++◌, if◌then◌else◌, Some, None, map, length, replicate, slice_index_or, slice_set, vec_len, false, IfOk, OnOk, IfSome};
 ghost use Rattle.std.specs.List.{AllByRecursion, range_with_len};
-ghost use Rattle.binning.specs.Gathered.{AreDistinct, is_in, place_in, keys_in, IsPlace, Knows};
-ghost use Rattle.binning.specs.Groups.{place_if, grown, with_value, rows_at, ByKey};
+ghost use Rattle.binning.specs.Gathered.{AreDistinct, is_in, place_in, keys_in, Knows, with_value};
+ghost use Rattle.binning.specs.Groups.{place_if, grown, with_row, rows_at, pairs_from, ByKey};
 
 use sqlite_items::Items;
 use std::alloc::{AllocError, Global};
@@ -92,16 +92,15 @@ pub(crate) fn place(
     }
 }
 
-/// How many rows have each of `count` places.
+/// How many rows have each of `count` places, so that there is room for them.
 fn counts(alloc: Global, places: &[u32], count: usize) -> Result<Vec<u32>, AllocError>
-    requires limit { length places.now ≤ 4194304 }
-    requires below { AllByRecursion (IsPlace count) places.now }
     ensures { IfOk result (λ counts. vec_len counts ≡ count) }
 {
-    let mut counts = vec![in alloc; 0; count]?;
+    let mut counts = vec![in alloc; 0u32; count]?;
     for place in places {
-        if *place != NO_PLACE {
-            counts[*place as usize] += 1;
+        let at_place = *place as usize;
+        if at_place < count {
+            counts[at_place] = counts[at_place].saturating_add(1);
         }
     }
     Ok(counts)
@@ -113,17 +112,22 @@ fn rooms(alloc: Global, counts: &[u32]) -> Result<Vec<Items<u32>>, AllocError>
 {
     let mut rows = Vec::with_capacity(alloc, counts.len())?;
     for count in counts {
-        rows.push(Items::from_vec(Vec::with_capacity(alloc, *count as usize)?))?;
+        rows.push(Items::from_vec(Vec::with_capacity(
+            alloc,
+            *count as usize,
+        )?))?;
     }
     Ok(rows)
 }
 
-/// Adds a row to those of a place.
+/// Adds a row to those of its place, where there is such a place.
 #[inline(always)]
 fn put(rows: &mut Vec<Items<u32>>, place: usize, row: u32) -> Result<(), AllocError>
-    requires { place < vec_len rows.old }
-    ensures { OnOk result (rows.new.items ≡ slice_set rows.old.items place (slice_index_or rows.old.items place [] ++ row ∷ [])) }
+    ensures { OnOk result (rows.new.items ≡ with_row rows.old.items place row) }
 {
+    if place >= rows.len() {
+        return Ok(());
+    }
     let at_place = &mut rows[place];
     at_place.push(row)
 }
@@ -135,15 +139,12 @@ pub(crate) fn rows_by_place(
     count: usize,
 ) -> Result<Vec<Items<u32>>, AllocError>
     requires limit { length places.now ≤ 4194304 }
-    requires below { AllByRecursion (IsPlace count) places.now }
     ensures { IfOk result (λ rows. rows.items ≡ map (rows_at places.now) (range_with_len 0 count)) }
 {
     let counts = counts(alloc, places, count)?;
     let mut rows = rooms(alloc, &counts)?;
     for (row, place) in places.iter().enumerate() {
-        if *place != NO_PLACE {
-            put(&mut rows, *place as usize, row as u32)?;
-        }
+        put(&mut rows, *place as usize, row as u32)?;
     }
     Ok(rows)
 }
@@ -155,18 +156,27 @@ pub struct KeyPlace {
     pub place: u32,
 }
 
+/// The groups' keys, each with its place.
+fn key_places(alloc: Global, groups: &[Group]) -> Result<Vec<KeyPlace>, AllocError>
+    requires few { length groups.now ≤ 4194304 }
+    ensures { IfOk result (λ pairs. pairs.items ≡ pairs_from 0 groups.now) }
+{
+    let mut pairs = Vec::with_capacity(alloc, groups.len())?;
+    for (place, group) in groups.iter().enumerate() {
+        pairs.push(KeyPlace {
+            key: group.key,
+            place: place as u32,
+        })?;
+    }
+    Ok(pairs)
+}
+
 /// The groups' keys, each with its place, in rising order.
 pub(crate) fn by_key(alloc: Global, groups: &[Group]) -> Result<Vec<KeyPlace>, AllocError>
     requires few { length groups.now ≤ 4194304 }
     ensures { IfOk result (λ order. ByKey groups.now order.items) }
 {
-    let mut order = Vec::with_capacity(alloc, groups.len())?;
-    for (place, group) in groups.iter().enumerate() {
-        order.push(KeyPlace {
-            key: group.key,
-            place: place as u32,
-        })?;
-    }
+    let mut order = key_places(alloc, groups)?;
     order.sort_unstable_by_key(|pair| pair.key);
     Ok(order)
 }

@@ -10,7 +10,9 @@ use Rattle.binning.proofs.BoundLemmas.{weight_bound, cut_start, cut_more, cut_en
 use Rattle.binning.proofs.bounds.weight_bounds.Goals as goal
 
 pub returns-then-sorted-eq0 : goal.returns-then-sorted-eq0
-returns-then-sorted-eq0 c = ?
+returns-then-sorted-eq0 c =
+    let none : length c.args.sorted.now ≡ 0 = omega arith in
+    rw (c.new-bounds.ensures.items, weight_bounds_none c.args.count c.args.sorted.now none) refl
 
 pub loop-j-init : goal.loop-j-init
 loop-j-init c = cut_start (weight_bound c.args.count c.args.sorted.now) 1 c.args.count _ c.new-bounds.ensures.items

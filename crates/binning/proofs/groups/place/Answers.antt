@@ -49,3 +49,10 @@ add_group-requires-clause-absent c =
     let fits : SFits w128 c.args.key = c.ranges.key in
     let e : None ≡ place_if c.args.key (keys_in items) = rw (← c.deref.ensures.value) (simp to_z-of_z at c.in-None.ensures) in
     simp to_z-of_z (place_missing c.args.key (keys_in items) e)
+
+pub returns-in-None-clause-place : goal.returns-in-None-clause-place
+returns-in-None-clause-place c =
+    let items = c.args.groups.now.items in
+    let fits : SFits w128 c.args.key = c.ranges.key in
+    let e : None ≡ place_if c.args.key (keys_in items) = rw (← c.deref.ensures.value) (simp to_z-of_z at c.in-None.ensures) in
+    rw (place_absent c.args.key (keys_in items) (place_missing c.args.key (keys_in items) e), length-keys_in items) c.add_group.ensures.place

@@ -388,9 +388,8 @@ occurs-none v (x ∷ xs) h = let f = or_no (int_eq v x) (is_in v xs) h in occurs
 pub occurs-distinct : (v : ℤ) (xs : List ℤ) → AreDistinct xs → occurs v xs ≤ 1
 occurs-distinct v [] apart = omega arith
 occurs-distinct v (x ∷ xs) apart =
-    let a = occurs-cons v x xs in
-    let rest = occurs-distinct v xs apart.1 in
     either (int_eq v x)
       (λ t. let n : occurs v xs ≡ 0 = rw (eq_from v x t) (occurs-none x xs apart.0) in
-        let c : cond (int_eq v x) 1 0 ≡ 1 = rw t refl in omega arith)
-      (λ f. let c : cond (int_eq v x) 1 0 ≡ 0 = rw f refl in omega arith)
+        let c : occurs v (x ∷ xs) ≡ 1 + occurs v xs = occurs-cons v x xs ∙ (rw t refl) in omega (arith, n, c))
+      (λ f. let rest = occurs-distinct v xs apart.1 in
+        let c : occurs v (x ∷ xs) ≡ 0 + occurs v xs = occurs-cons v x xs ∙ (rw f refl) in omega (arith, rest, c))

@@ -5,3 +5,5 @@ pub mod MaskLemmas
 pub mod KeyLemmas
 pub mod BoundLemmas
 pub mod GroupLemmas
+pub mod OrderLemmas
+pub mod GatherLemmas

@@ -129,7 +129,8 @@ fn put(rows: &mut Vec<Items<u32>>, place: usize, row: u32) -> Result<(), AllocEr
         return Ok(());
     }
     let at_place = &mut rows[place];
-    at_place.push(row)
+    at_place.push(row)?;
+    Ok(())
 }
 
 /// The rows of each place.

@@ -1,5 +1,7 @@
 -- Masks as truth values, and the cells that they tell.
 use Rattle.std.proofs.Common.{◌≡◌, ℕ, zero, suc, ◌+◌, ◌-◌, ◌/◌, ◌%◌, ◌^◌, ◌<◌, ◌≤◌, Bool, true, false, eqb, cond, List, [], ◌∷◌, ◌++◌, length, get_or, take, drop, Option, Some, None, ℤ, refl, sym, ap, add-one, ◌∙◌, arith}
+use Rattle.std.specs.List.{AllByRecursion}
+use Rattle.std.specs.Option.{IfSome}
 use Rattle.wah_words.specs.Places.{places}
 use Rattle.binning.specs.Bins.{cells, present}
 
@@ -36,3 +38,16 @@ present_push (Some w ∷ column) b v = ap (λ vs. w ∷ vs) (present_push column
 pub present_more : (mask : List Bool) (vs : List ℤ) (i : ℕ) (b : Bool) (v : ℤ) → i < length mask → i < length vs → present (cells (take (i + 1) mask) (take (i + 1) vs)) ≡ present (cells (take i mask) (take i vs)) ++ cond (get_or mask i b) (get_or vs i v ∷ []) []
 present_more mask vs i b v h k =
     ap present (cells_more mask vs i b v h k) ∙ present_push (cells (take i mask) (take i vs)) (get_or mask i b) (get_or vs i v)
+
+pub cell_is : (b : Bool) (v : ℤ) → cell b v ≡ cond b (Some v) None
+cell_is true v = refl
+cell_is false v = refl
+
+pub cell_within : (P : ℤ → Type 0) (b : Bool) (v : ℤ) → P v → IfSome (cond b (Some v) None) P
+cell_within P true v h = h
+cell_within P false v h = tt
+
+pub value_at : (P : ℤ → Type 0) (vs : List ℤ) (i : ℕ) (d : ℤ) → AllByRecursion P vs → i < length vs → P (get_or vs i d)
+value_at P [] i d all h = absurd (omega arith)
+value_at P (v ∷ vs) zero d all h = all.0
+value_at P (v ∷ vs) (suc i) d all h = value_at P vs i d all.1 (omega arith)

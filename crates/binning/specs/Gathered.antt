@@ -20,6 +20,9 @@ pub record Held : Type 0 where
 abbrev pub keys_in : List Group → List ℤ
 keys_in groups = map (λ g. g.key) groups
 
+abbrev pub held : Keying → List Group → List ℕ → Held
+held rule groups places = record { rule = rule; groups = groups; places = places }
+
 -- whether a list has the number
 abbrev pub is_in : ℤ → List ℤ → Bool
 is_in k ks = list_any (int_eq k) ks

@@ -4,7 +4,7 @@ ghost use Rattle.std.specs.List.{AllByRecursion, range_with_len};
 ghost use Rattle.wah_words.specs.Spelling.{words_of};
 ghost use Rattle.binning.specs.Spans.{IsInRange};
 ghost use Rattle.binning.specs.Bins.{cells, bins_of};
-ghost use Rattle.binning.specs.Gathered.{Gathered, Knows, AreDistinct, keys_in, place_of, groups_after};
+ghost use Rattle.binning.specs.Gathered.{Gathered, Knows, AreDistinct, keys_in, place_of, groups_after, held};
 ghost use Rattle.binning.specs.Groups.{rows_at};
 ghost use Rattle.binning.specs.BinFor.{bin_for};
 
@@ -85,6 +85,35 @@ fn put_row(
     Ok(at_place)
 }
 
+/// Adds rows, of which some are there.
+fn put_rows(
+    known: &mut HashMap<i128, u32>,
+    groups: &mut Vec<Group>,
+    places: &mut Vec<u32>,
+    rule: &Rule,
+    is_there: &[bool],
+    values: &[i128],
+) -> Result<(), AllocError>
+    requires same { length is_there.now ≡ length values.now }
+    requires within { AllByRecursion IsInRange values.now }
+    requires knows { Knows known.old (keys_in groups.old.items) }
+    requires distinct { AreDistinct (keys_in groups.old.items) }
+    requires few { length groups.old.items ≤ length places.old.items }
+    requires room { length places.old.items + length values.now ≤ 4194304 }
+    ensures knows { OnOk result (Knows known.new (keys_in groups.new.items)) }
+    ensures distinct { OnOk result (AreDistinct (keys_in groups.new.items)) }
+    ensures few { OnOk result (length groups.new.items ≤ length places.new.items) }
+    ensures rows { OnOk result (length places.new.items ≡ length places.old.items + length values.now) }
+    ensures gathered { OnOk result ((column : List (Option ℤ)) → Gathered (held rule.now groups.old.items places.old.items) column → Gathered (held rule.now groups.new.items places.new.items) (column ++ cells is_there.now values.now)) }
+{
+    let mut last = NO_PLACE;
+    for (row, v) in values.iter().enumerate() {
+        let cell = cell(is_there[row], *v);
+        last = put_row(known, groups, places, rule, last, cell)?;
+    }
+    Ok(())
+}
+
 impl Gatherer {
     /// No row yet.
     pub fn make(alloc: Global, rule: Rule) -> Gatherer
@@ -127,11 +156,14 @@ impl Gatherer {
         let mut is_there = Vec::with_capacity(alloc, values.len())?;
         append_mask(&mut is_there, present, steps)?;
         let is_there = is_there.as_slice();
-        let mut last = NO_PLACE;
-        for (row, v) in values.iter().enumerate() {
-            let cell = cell(is_there[row], *v);
-            last = put_row(&mut known, &mut groups, &mut places, &rule, last, cell)?;
-        }
+        put_rows(
+            &mut known,
+            &mut groups,
+            &mut places,
+            &rule,
+            is_there,
+            values,
+        )?;
         Ok(Gatherer {
             alloc,
             rule,

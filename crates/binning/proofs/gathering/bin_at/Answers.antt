@@ -14,18 +14,18 @@ bounds-rows-place c = rw (c.requires.rows, length-map-range_with_len (rows_at c.
 
 pub from_rows-requires-clause-rising : goal.from_rows-requires-clause-rising
 from_rows-requires-clause-rising c =
-    let e : c.as_slice-at_place.result.now ≡ rows_at c.args.places.now c.args.place = ? in
+    let e : c.as_slice-at_place.result.now ≡ rows_at c.args.places.now c.args.place = let h = c.index-rows-place.ensures in ? in
     rw e (λ i h. rows_rise 0 (map (λ p. eqb p c.args.place) c.args.places.now) i h)
 
 pub from_rows-requires-clause-below : goal.from_rows-requires-clause-below
 from_rows-requires-clause-below c =
-    let e : c.as_slice-at_place.result.now ≡ rows_at c.args.places.now c.args.place = ? in
+    let e : c.as_slice-at_place.result.now ≡ rows_at c.args.places.now c.args.place = let h = c.index-rows-place.ensures in ? in
     rw e (λ i h. rows_at_below c.args.places.now c.args.place i h)
 
 pub returns : goal.returns
 returns c =
     let d : Group = record { key = pos 0; least = pos 0; greatest = pos 0 } in
-    let e : c.as_slice-at_place.result.now ≡ rows_at c.args.places.now c.args.place = ? in
+    let e : c.as_slice-at_place.result.now ≡ rows_at c.args.places.now c.args.place = let h = c.index-rows-place.ensures in ? in
     let fits_least : SFits w128 (get_or c.args.groups.now c.args.place d).least = search rules in
     let fits_greatest : SFits w128 (get_or c.args.groups.now c.args.place d).greatest = search rules in
     let r = rows_tell c.args.places.now c.args.place c.in_ok-from_rows.field-0 c.in_ok-from_rows.ensures.length (c.in_ok-from_rows.ensures.rows ∙ e) in

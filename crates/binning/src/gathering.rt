@@ -179,7 +179,8 @@ impl Gatherer {
     {
         let rows = rows_by_place(self.alloc, &self.places, self.groups.len())?;
         let order = by_key(self.alloc, &self.groups)?;
-        bins_in_order(self.alloc, &order, &self.groups, &rows, &self.places)
+        let bins = bins_in_order(self.alloc, &order, &self.groups, &rows, &self.places)?;
+        Ok(bins)
     }
 }
 

@@ -7,6 +7,7 @@ ghost use Rattle.binning.specs.Bins.{cells, bins_of};
 ghost use Rattle.binning.specs.Gathered.{Gathered, Knows, AreDistinct, keys_in, place_of, groups_after, held};
 ghost use Rattle.binning.specs.Groups.{rows_at};
 ghost use Rattle.binning.specs.BinFor.{bin_for};
+ghost use Rattle.binning.specs.declared.rules.Keying.{Keying};
 
 use crate::groups::{Group, KeyPlace, NO_PLACE, by_key, place, rows_by_place};
 use crate::masks::append_mask;
@@ -177,9 +178,7 @@ impl Gatherer {
     pub fn finish(self) -> Result<Vec<Bin>, AllocError>
         ensures { IfOk result (λ bins. (column : List (Option ℤ)) → Gathered self column → bins.items ≡ bins_of self.rule column) }
     {
-        let rows = rows_by_place(self.alloc, &self.places, self.groups.len())?;
-        let order = by_key(self.alloc, &self.groups)?;
-        let bins = bins_in_order(self.alloc, &order, &self.groups, &rows, &self.places)?;
+        let bins = bins_of_groups(self.alloc, &self.groups, &self.places)?;
         Ok(bins)
     }
 }
@@ -226,6 +225,18 @@ fn bins_in_order(
     Ok(bins)
 }
 
+/// The bins of groups, where these are the rows' places.
+fn bins_of_groups(alloc: Global, groups: &[Group], places: &[u32]) -> Result<Vec<Bin>, AllocError>
+    requires few { length groups.now ≤ 4194304 }
+    requires limit { length places.now ≤ 4194304 }
+    ensures { IfOk result (λ bins. (rule : Keying) (column : List (Option ℤ)) → Gathered (held rule groups.now places.now) column → bins.items ≡ bins_of rule column) }
+{
+    let rows = rows_by_place(alloc, places, groups.len())?;
+    let order = by_key(alloc, groups)?;
+    let bins = bins_in_order(alloc, &order, groups, &rows, places)?;
+    Ok(bins)
+}
+
 /// The bins of a column, whose values lie between -2^63 and 2^64 - 1 and of which a row is there where the mask is true.
 pub fn bins<L: Ledger>(
     alloc: Global,
@@ -241,6 +252,7 @@ pub fn bins<L: Ledger>(
 {
     let _rows = mask.len();
     let gatherer = Gatherer::make(alloc, rule.copy(alloc)?);
-    let gatherer = gatherer.add(values, mask, steps)?;
-    gatherer.finish()
+    let all = gatherer.add(values, mask, steps)?;
+    let bins = all.finish()?;
+    Ok(bins)
 }

@@ -120,12 +120,12 @@ above_unit digits n unit h some = le_mul n unit (10 ^ digits) h some
 pub unit_more : (digits n unit : ℕ) → IsUnit digits n unit → 10 ^ digits * unit ≤ n → IsUnit digits n (unit * 10)
 unit_more digits n unit u h =
     let low : 10 ^ (digits + (u.zeros + 1)) ≤ 10 * n =
-      let e : digits + u.zeros + 1 ≡ digits + (u.zeros + 1) = omega arith in
-      let q : 10 ^ (digits + u.zeros + 1) ≡ 10 ^ (digits + (u.zeros + 1)) = ap (λ (m : ℕ). 10 ^ m) e in
-      let p = pow_next (digits + u.zeros) in
-      let r = pow-add 10 digits u.zeros in
-      let v : 10 ^ digits * 10 ^ u.zeros ≤ n = rw (← u.power) h in
-      omega arith in
+    let e : digits + u.zeros + 1 ≡ digits + (u.zeros + 1) = omega arith in
+    let q : 10 ^ (digits + u.zeros + 1) ≡ 10 ^ (digits + (u.zeros + 1)) = ap (λ (m : ℕ). 10 ^ m) e in
+    let p = pow_next (digits + u.zeros) in
+    let r = pow-add 10 digits u.zeros in
+    let v : 10 ^ digits * 10 ^ u.zeros ≤ n = rw (← u.power) h in
+    omega arith in
     record { zeros = u.zeros + 1; power = sym (pow_next u.zeros ∙ ap (λ m. m * 10) (sym u.power)); low = inr low }
 
 pub ten_unit : (digits n unit : ℕ) → 1 ≤ digits → IsUnit digits n unit → 10 ^ digits ≤ n / unit → unit * 10 ≤ n

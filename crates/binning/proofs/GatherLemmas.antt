@@ -58,9 +58,9 @@ values_some : (keys : Keying) (k : ℤ) (vs : List ℤ) → is_in k (map (key ke
 values_some keys k [] h e = not_both h refl
 values_some keys k (v ∷ vs) h e =
     either (int_eq (key keys v) k)
-      (λ t. nonempty v (filter (λ v. int_eq (key keys v) k) vs) (rw t at e))
-      (λ f. let g : int_eq k (key keys v) ≡ false = eq_swap k (key keys v) ∙ f in
-        values_some keys k vs (sym (or_right (int_eq k (key keys v)) (is_in k (map (key keys) vs)) g) ∙ h) (rw f at e))
+    (λ t. nonempty v (filter (λ v. int_eq (key keys v) k) vs) (rw t at e))
+    (λ f. let g : int_eq k (key keys v) ≡ false = eq_swap k (key keys v) ∙ f in
+    values_some keys k vs (sym (or_right (int_eq k (key keys v)) (is_in k (map (key keys) vs)) g) ∙ h) (rw f at e))
   where
     nonempty : (v : ℤ) (xs : List ℤ) → v ∷ xs ≡ [] → ⊥
     nonempty v xs e = cc
@@ -69,20 +69,20 @@ values_some keys k (v ∷ vs) h e =
 group_other : (keys : Keying) (column : List (Option ℤ)) (v k : ℤ) → int_eq (key keys v) k ≡ false → group_of keys (column ++ Some v ∷ []) k ≡ group_of keys column k
 group_other keys column v k other =
     let e : values_with keys k (column ++ Some v ∷ []) ≡ values_with keys k column =
-      ap (filter (λ w. int_eq (key keys w) k)) (present-some column v) ∙ filter-push (λ w. int_eq (key keys w) k) (present column) v ∙ (rw other (append-nil (values_with keys k column))) in
+    ap (filter (λ w. int_eq (key keys w) k)) (present-some column v) ∙ filter-push (λ w. int_eq (key keys w) k) (present column) v ∙ (rw other (append-nil (values_with keys k column))) in
     rw e refl
 
 group_same : (keys : Keying) (column : List (Option ℤ)) (v k : ℤ) → int_eq (key keys v) k ≡ true → is_in k (map (key keys) (present column)) ≡ true → group_of keys (column ++ Some v ∷ []) k ≡ grown_group (group_of keys column k) v
 group_same keys column v k same there =
     let e : values_with keys k (column ++ Some v ∷ []) ≡ values_with keys k column ++ v ∷ [] =
-      ap (filter (λ w. int_eq (key keys w) k)) (present-some column v) ∙ filter-push (λ w. int_eq (key keys w) k) (present column) v ∙ (rw same refl) in
+    ap (filter (λ w. int_eq (key keys w) k)) (present-some column v) ∙ filter-push (λ w. int_eq (key keys w) k) (present column) v ∙ (rw same refl) in
     let x = extremes-push (values_with keys k column) v (values_some keys k (present column) there) in
     rw (e, x.0, x.1) refl
 
 group_new : (keys : Keying) (column : List (Option ℤ)) (v k : ℤ) → int_eq (key keys v) k ≡ true → is_in k (map (key keys) (present column)) ≡ false → group_of keys (column ++ Some v ∷ []) k ≡ record { key = k; least = v; greatest = v }
 group_new keys column v k same absent =
     let e : values_with keys k (column ++ Some v ∷ []) ≡ values_with keys k column ++ v ∷ [] =
-      ap (filter (λ w. int_eq (key keys w) k)) (present-some column v) ∙ filter-push (λ w. int_eq (key keys w) k) (present column) v ∙ (rw same refl) in
+    ap (filter (λ w. int_eq (key keys w) k)) (present-some column v) ∙ filter-push (λ w. int_eq (key keys w) k) (present column) v ∙ (rw same refl) in
     rw (e, filter-none keys k (present column) absent) refl
 
 -- each group of the column is one of the longer column
@@ -90,18 +90,23 @@ pub groups_more : (keys : Keying) (column : List (Option ℤ)) (v : ℤ) (gs : L
 groups_more keys column v [] among apart all there = absurd (not_both there refl)
 groups_more keys column v (g ∷ gs) among apart all there =
     either (int_eq (key keys v) g.key)
-      (λ t. rw t (first t, others gs all.1 (λ k h. apart_from k h t)))
-      (λ f. rw f (all.0 ∙ sym (group_other keys column v g.key f),
-        groups_more keys column v gs (λ k h. among k (later k h)) apart.1 all.1 (sym (or_right (int_eq (key keys v) g.key) (is_in (key keys v) (keys_in gs)) f) ∙ there)))
+    (λ t. rw t (first t, others gs all.1 (λ k h. apart_from k h t)))
+    (λ f. rw f (
+      all.0 ∙ sym (group_other keys column v g.key f),
+      groups_more keys column v gs (λ k h. among k (later k h)) apart.1 all.1 (sym (or_right (int_eq (key keys v) g.key) (is_in (key keys v) (keys_in gs)) f) ∙ there),
+    ))
   where
     first : int_eq (key keys v) g.key ≡ true → grown_group g v ≡ group_of keys (column ++ Some v ∷ []) g.key
     first t = ap (λ x. grown_group x v) all.0 ∙ sym (group_same keys column v g.key t (among g.key (or_left (int_eq g.key g.key) (is_in g.key (keys_in gs)) (eq_self g.key))))
+
     later : (k : ℤ) → is_in k (keys_in gs) ≡ true → is_in k (keys_in (g ∷ gs)) ≡ true
     later k h = either (int_eq k g.key) (λ t. or_left (int_eq k g.key) (is_in k (keys_in gs)) t) (λ f. or_right (int_eq k g.key) (is_in k (keys_in gs)) f ∙ h)
+
     apart_from : (k : ℤ) → is_in k (keys_in gs) ≡ true → int_eq (key keys v) g.key ≡ true → int_eq (key keys v) k ≡ false
     apart_from k h t = either (int_eq (key keys v) k)
-      (λ u. let e : g.key ≡ k = sym (eq_from (key keys v) g.key t) ∙ eq_from (key keys v) k u in absurd (not_both h (subst (λ (z : ℤ). is_in z (keys_in gs) ≡ false) e apart.0)))
-      (λ f. f)
+        (λ u. let e : g.key ≡ k = sym (eq_from (key keys v) g.key t) ∙ eq_from (key keys v) k u in absurd (not_both h (subst (λ (z : ℤ). is_in z (keys_in gs) ≡ false) e apart.0)))
+        (λ f. f)
+
     others : (hs : List Group) → AllByRecursion (λ g. g ≡ group_of keys column g.key) hs → ((k : ℤ) → is_in k (keys_in hs) ≡ true → int_eq (key keys v) k ≡ false) → AllByRecursion (λ g. g ≡ group_of keys (column ++ Some v ∷ []) g.key) hs
     others [] a o = tt
     others (h ∷ hs) a o =
@@ -140,8 +145,8 @@ keys_push_present keys column v = ap (map (key keys)) (present-some column v) �
 pub distinct_with : (gs : List Group) (k v : ℤ) → AreDistinct (keys_in gs) → AreDistinct (keys_in (with_value gs k v))
 distinct_with gs k v apart =
     either (is_in k (keys_in gs))
-      (λ t. rw (keys_with gs k v t) apart)
-      (λ f. rw (keys_new gs k v f) (distinct_push k (keys_in gs) apart f))
+    (λ t. rw (keys_with gs k v t) apart)
+    (λ f. rw (keys_new gs k v f) (distinct_push k (keys_in gs) apart f))
 
 pub distinct_after : (keys : Keying) (gs : List Group) (c : Option ℤ) → AreDistinct (keys_in gs) → AreDistinct (keys_in (groups_after keys gs c))
 distinct_after keys gs None apart = apart
@@ -151,8 +156,8 @@ pub length_with : (gs : List Group) (k v : ℤ) → length (with_value gs k v) �
 length_with [] k v = omega arith
 length_with (g ∷ gs) k v =
     either (int_eq k g.key)
-      (λ t. rw t (omega arith))
-      (λ f. rw f (let r = length_with gs k v in omega arith))
+    (λ t. rw t (omega arith))
+    (λ f. rw f (let r = length_with gs k v in omega arith))
 
 pub length_after : (keys : Keying) (gs : List Group) (c : Option ℤ) → length (groups_after keys gs c) ≤ length gs + 1
 length_after keys gs None = omega arith
@@ -178,6 +183,7 @@ gathered_more keys gs ps column (Some v) g =
           groups = groups_more keys column v gs (λ k h. sym (g.keys k) ∙ h) g.distinct g.groups t;
           places = rw (same, g.places) (sym (map-push (place_of keys (keys_in gs)) column (Some v)));
         }
+
     new_key : is_in (key keys v) (keys_in gs) ≡ false → Gathered (held keys (with_value gs (key keys v) v) (ps ++ place_in (key keys v) (keys_in gs) ∷ [])) (column ++ Some v ∷ [])
     new_key f =
         let longer = keys_new gs (key keys v) v f in
@@ -199,8 +205,8 @@ place_get : (q : ℤ) (ks : List ℤ) (d : ℤ) → place_in q ks < length ks �
 place_get q [] d h = absurd (omega arith)
 place_get q (x ∷ ks) d h =
     either (int_eq q x)
-      (λ t. rw t (sym (eq_from q x t)))
-      (λ f. rw f (place_get q ks d (let s : place_in q (x ∷ ks) ≡ suc (place_in q ks) = rw f refl in omega arith)))
+    (λ t. rw t (sym (eq_from q x t)))
+    (λ f. rw f (place_get q ks d (let s : place_in q (x ∷ ks) ≡ suc (place_in q ks) = rw f refl in omega arith)))
 
 has_place : (keys : Keying) (ks : List ℤ) (place : ℕ) (k d : ℤ) → AreDistinct ks → place < length ks → get_or ks place d ≡ k → length ks ≤ 4194304 → (c : Option ℤ) → eqb (place_of keys ks c) place ≡ has_key keys k c
 has_place keys ks place k d apart within e few None = far 4294967295 place (omega arith)
@@ -209,16 +215,17 @@ has_place keys ks place k d apart within e few None = far 4294967295 place (omeg
     far a b h = grind (arith, nat_tests)
 has_place keys ks place k d apart within e few (Some v) =
     either (int_eq (key keys v) k)
-      (λ t. let p : place_in (key keys v) ks ≡ place = place_at ks place d (key keys v) apart within (e ∙ sym (eq_from (key keys v) k t)) in
-        rw (t, p) (same place))
-      (λ f. rw f (either (eqb (place_in (key keys v) ks) place)
-        (λ u. let p : place_in (key keys v) ks ≡ place = equal (place_in (key keys v) ks) place u in
-          let r : get_or ks place d ≡ key keys v = rw p at (place_get (key keys v) ks d (rw p within)) in
-          absurd (not_both (eq_true (key keys v) k (sym r ∙ e)) f))
-        (λ g. g)))
+    (λ t. let p : place_in (key keys v) ks ≡ place = place_at ks place d (key keys v) apart within (e ∙ sym (eq_from (key keys v) k t)) in
+    rw (t, p) (same place))
+    (λ f. rw f (either (eqb (place_in (key keys v) ks) place)
+    (λ u. let p : place_in (key keys v) ks ≡ place = equal (place_in (key keys v) ks) place u in
+    let r : get_or ks place d ≡ key keys v = rw p at (place_get (key keys v) ks d (rw p within)) in
+    absurd (not_both (eq_true (key keys v) k (sym r ∙ e)) f))
+    (λ g. g)))
   where
     same : (n : ℕ) → eqb n n ≡ true
     same n = grind (arith, nat_tests)
+
     equal : (a b : ℕ) → eqb a b ≡ true → a ≡ b
     equal a b h = grind (arith, nat_tests)
 
@@ -247,7 +254,7 @@ bins_each held column (p ∷ order) g few all =
 pub bins_final : (held : Held) (column : List (Option ℤ)) (order : List KeyPlace) → length held.groups ≤ 4194304 → ByKey held.groups order → Gathered held column → map (λ pair. bin_for held.groups held.places pair.place) order ≡ bins_of held.rule column
 bins_final held column order few b g =
     bins_each held column order g few b.places
-      ∙ ap (map (bin_of held.rule column)) (rising_from (map (λ pair. pair.key) order) (map (key held.rule) (present column)) (b.rises g.distinct) (λ k. b.keys k ∙ g.keys k))
+    ∙ ap (map (bin_of held.rule column)) (rising_from (map (λ pair. pair.key) order) (map (key held.rule) (present column)) (b.rises g.distinct) (λ k. b.keys k ∙ g.keys k))
 
 pub places_within : (n : ℕ) (groups : List Group) (order : List KeyPlace) → AllByRecursion (λ pair. (pair.place < length groups) × ((d : Group) → (get_or groups pair.place d).key ≡ pair.key)) order → AllByRecursion (λ pair. pair.place < length groups) order
 places_within n groups [] all = tt

@@ -40,29 +40,29 @@ pub place_within : (k : ℤ) (ks : List ℤ) → is_in k ks ≡ true → place_i
 place_within k [] h = absurd (not_both h refl)
 place_within k (x ∷ ks) h =
     either (int_eq k x)
-      (λ t. rw t (omega arith))
-      (λ f. rw f (let r = place_within k ks (sym (or_right (int_eq k x) (is_in k ks) f) ∙ h) in omega arith))
+    (λ t. rw t (omega arith))
+    (λ f. rw f (let r = place_within k ks (sym (or_right (int_eq k x) (is_in k ks) f) ∙ h) in omega arith))
 
 pub place_absent : (k : ℤ) (ks : List ℤ) → is_in k ks ≡ false → place_in k ks ≡ length ks
 place_absent k [] h = refl
 place_absent k (x ∷ ks) h =
     either (int_eq k x)
-      (λ t. absurd (not_both (or_left (int_eq k x) (is_in k ks) t) h))
-      (λ f. rw f (ap suc (place_absent k ks (sym (or_right (int_eq k x) (is_in k ks) f) ∙ h))))
+    (λ t. absurd (not_both (or_left (int_eq k x) (is_in k ks) t) h))
+    (λ f. rw f (ap suc (place_absent k ks (sym (or_right (int_eq k x) (is_in k ks) f) ∙ h))))
 
 pub place_longer : (k y : ℤ) (ks : List ℤ) → is_in k ks ≡ true → place_in k (ks ++ y ∷ []) ≡ place_in k ks
 place_longer k y [] h = absurd (not_both h refl)
 place_longer k y (x ∷ ks) h =
     either (int_eq k x)
-      (λ t. rw t refl)
-      (λ f. rw f (ap suc (place_longer k y ks (sym (or_right (int_eq k x) (is_in k ks) f) ∙ h))))
+    (λ t. rw t refl)
+    (λ f. rw f (ap suc (place_longer k y ks (sym (or_right (int_eq k x) (is_in k ks) f) ∙ h))))
 
 pub place_of_new : (y : ℤ) (ks : List ℤ) → is_in y ks ≡ false → place_in y (ks ++ y ∷ []) ≡ length ks
 place_of_new y [] h = rw (eq_self y) refl
 place_of_new y (x ∷ ks) h =
     either (int_eq y x)
-      (λ t. absurd (not_both (or_left (int_eq y x) (is_in y ks) t) h))
-      (λ f. rw f (ap suc (place_of_new y ks (sym (or_right (int_eq y x) (is_in y ks) f) ∙ h))))
+    (λ t. absurd (not_both (or_left (int_eq y x) (is_in y ks) t) h))
+    (λ f. rw f (ap suc (place_of_new y ks (sym (or_right (int_eq y x) (is_in y ks) f) ∙ h))))
 
 pub distinct_push : (y : ℤ) (ks : List ℤ) → AreDistinct ks → is_in y ks ≡ false → AreDistinct (ks ++ y ∷ [])
 distinct_push y [] apart h = (refl, tt)
@@ -75,19 +75,20 @@ distinct_push y (x ∷ ks) apart h =
 pub place_if_push : (k y : ℤ) (ks : List ℤ) → is_in y ks ≡ false → cond (int_eq y k) (Some (length ks)) (place_if k ks) ≡ place_if k (ks ++ y ∷ [])
 place_if_push k y ks absent =
     either (int_eq y k)
-      (λ t. rw t (new_place k y ks absent (sym (eq_from y k t))))
-      (λ f. rw f (old_place k y ks f))
+    (λ t. rw t (new_place k y ks absent (sym (eq_from y k t))))
+    (λ f. rw f (old_place k y ks f))
   where
     new_place : (k y : ℤ) (ks : List ℤ) → is_in y ks ≡ false → k ≡ y → Some (length ks) ≡ place_if k (ks ++ y ∷ [])
     new_place k y ks absent e =
         let there : is_in y (ks ++ y ∷ []) ≡ true = is_in-append y ks y ∙ (rw (absent, eq_self y) refl) in
         subst (λ (z : ℤ). Some (length ks) ≡ place_if z (ks ++ y ∷ [])) (sym e) (rw (there, place_of_new y ks absent) refl)
+
     old_place : (k y : ℤ) (ks : List ℤ) → int_eq y k ≡ false → place_if k ks ≡ place_if k (ks ++ y ∷ [])
     old_place k y ks f =
         let e : is_in k (ks ++ y ∷ []) ≡ is_in k ks = is_in-append k ks y ∙ (rw (eq_swap k y, f) (or-false (is_in k ks))) in
         either (is_in k ks)
-          (λ t. rw (e, t, place_longer k y ks t) refl)
-          (λ g. rw (e, g) refl)
+        (λ t. rw (e, t, place_longer k y ks t) refl)
+        (λ g. rw (e, g) refl)
 
 -- ---- groups
 
@@ -105,22 +106,22 @@ pub grown_with : (gs : List Group) (k v : ℤ) → is_in k (keys_in gs) ≡ true
 grown_with [] k v h = absurd (not_both h refl)
 grown_with (g ∷ gs) k v h =
     either (int_eq k g.key)
-      (λ t. rw t refl)
-      (λ f. rw f (ap (λ xs. g ∷ xs) (grown_with gs k v (sym (or_right (int_eq k g.key) (is_in k (keys_in gs)) f) ∙ h))))
+    (λ t. rw t refl)
+    (λ f. rw f (ap (λ xs. g ∷ xs) (grown_with gs k v (sym (or_right (int_eq k g.key) (is_in k (keys_in gs)) f) ∙ h))))
 
 pub keys_with : (gs : List Group) (k v : ℤ) → is_in k (keys_in gs) ≡ true → keys_in (with_value gs k v) ≡ keys_in gs
 keys_with [] k v h = absurd (not_both h refl)
 keys_with (g ∷ gs) k v h =
     either (int_eq k g.key)
-      (λ t. rw t refl)
-      (λ f. rw f (ap (λ xs. g.key ∷ xs) (keys_with gs k v (sym (or_right (int_eq k g.key) (is_in k (keys_in gs)) f) ∙ h))))
+    (λ t. rw t refl)
+    (λ f. rw f (ap (λ xs. g.key ∷ xs) (keys_with gs k v (sym (or_right (int_eq k g.key) (is_in k (keys_in gs)) f) ∙ h))))
 
 pub with_new : (gs : List Group) (k v : ℤ) → is_in k (keys_in gs) ≡ false → with_value gs k v ≡ gs ++ record { key = k; least = v; greatest = v } ∷ []
 with_new [] k v h = refl
 with_new (g ∷ gs) k v h =
     either (int_eq k g.key)
-      (λ t. absurd (not_both (or_left (int_eq k g.key) (is_in k (keys_in gs)) t) h))
-      (λ f. rw f (ap (λ xs. g ∷ xs) (with_new gs k v (sym (or_right (int_eq k g.key) (is_in k (keys_in gs)) f) ∙ h))))
+    (λ t. absurd (not_both (or_left (int_eq k g.key) (is_in k (keys_in gs)) t) h))
+    (λ f. rw f (ap (λ xs. g ∷ xs) (with_new gs k v (sym (or_right (int_eq k g.key) (is_in k (keys_in gs)) f) ∙ h))))
 
 pub keys_push : (gs : List Group) (g : Group) → keys_in (gs ++ g ∷ []) ≡ keys_in gs ++ g.key ∷ []
 keys_push [] g = refl
@@ -133,19 +134,20 @@ keys_new gs k v h = ap keys_in (with_new gs k v h) ∙ keys_push gs (record { ke
 pub place_found : (k : ℤ) (ks : List ℤ) (p : ℕ) → Some p ≡ place_if k ks → (is_in k ks ≡ true) × (p ≡ place_in k ks)
 place_found k ks p e =
     either (is_in k ks)
-      (λ t. (t, some_same p (place_in k ks) (e ∙ (rw t refl))))
-      (λ f. absurd (some_none p (e ∙ (rw f refl))))
+    (λ t. (t, some_same p (place_in k ks) (e ∙ (rw t refl))))
+    (λ f. absurd (some_none p (e ∙ (rw f refl))))
   where
     some_same : (a b : ℕ) → Some a ≡ Some b → a ≡ b
     some_same a b e = cc
+
     some_none : (a : ℕ) → Some a ≡ None → ⊥
     some_none a e = cc
 
 pub place_missing : (k : ℤ) (ks : List ℤ) → None ≡ place_if k ks → is_in k ks ≡ false
 place_missing k ks e =
     either (is_in k ks)
-      (λ t. absurd (none_some (place_in k ks) (e ∙ (rw t refl))))
-      (λ f. f)
+    (λ t. absurd (none_some (place_in k ks) (e ∙ (rw t refl))))
+    (λ f. f)
   where
     none_some : (a : ℕ) → None ≡ Some a → ⊥
     none_some a e = cc

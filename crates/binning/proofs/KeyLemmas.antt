@@ -68,8 +68,8 @@ pub rises_above : (x : ℤ) (xs : List ℤ) → Rises (x ∷ xs) → (y : ℤ) �
 rises_above x [] r y h = absurd (cc)
 rises_above x (z ∷ xs) r y h =
     either (int_eq y z)
-      (λ e. rw (eq_from y z e) r.0)
-      (λ f. let later = rises_above z xs r.1 y (sym (or_right (int_eq y z) (is_in y xs) f) ∙ h) in let first = r.0 in omega (arith, ints))
+    (λ e. rw (eq_from y z e) r.0)
+    (λ f. let later = rises_above z xs r.1 y (sym (or_right (int_eq y z) (is_in y xs) f) ∙ h) in let first = r.0 in omega (arith, ints))
 
 pub rises_tail : (x : ℤ) (xs : List ℤ) → Rises (x ∷ xs) → Rises xs
 rises_tail x [] r = tt
@@ -86,8 +86,8 @@ not_later x xs r = either (is_in x xs) (λ t. let h = rises_above x xs r x t in 
 tail_same : (x : ℤ) (xs ys : List ℤ) → Rises (x ∷ xs) → Rises (x ∷ ys) → ((v : ℤ) → is_in v (x ∷ xs) ≡ is_in v (x ∷ ys)) → (v : ℤ) → is_in v xs ≡ is_in v ys
 tail_same x xs ys rx ry same v =
     either (int_eq v x)
-      (λ e. rw (eq_from v x e) (not_later x xs rx ∙ sym (not_later x ys ry)))
-      (λ f. sym (or_right (int_eq v x) (is_in v xs) f) ∙ same v ∙ or_right (int_eq v x) (is_in v ys) f)
+    (λ e. rw (eq_from v x e) (not_later x xs rx ∙ sym (not_later x ys ry)))
+    (λ f. sym (or_right (int_eq v x) (is_in v xs) f) ∙ same v ∙ or_right (int_eq v x) (is_in v ys) f)
 
 -- rising lists with the same members are one
 pub rises_same : (xs ys : List ℤ) → Rises xs → Rises ys → ((v : ℤ) → is_in v xs ≡ is_in v ys) → xs ≡ ys
@@ -96,12 +96,12 @@ rises_same [] (y ∷ ys) rx ry same = absurd (not_both (same y ∙ or_left (int_
 rises_same (x ∷ xs) [] rx ry same = absurd (not_both (or_left (int_eq x x) (is_in x xs) (eq_self x)) (same x))
 rises_same (x ∷ xs) (y ∷ ys) rx ry same =
     either (int_lt x y)
-      (λ less. absurd (missing x y xs ys ry (lt_of x y less) (λ t. sym (same x) ∙ t)))
-      (λ f. either (int_lt y x)
-        (λ more. absurd (missing y x ys xs rx (lt_of y x more) (λ t. same y ∙ t)))
-        (λ g. let e : x ≡ y = omega (arith, ints, le_of x y f, le_of y x g) in
-          subst (λ (z : ℤ). Rises (z ∷ ys) → ((v : ℤ) → is_in v (x ∷ xs) ≡ is_in v (z ∷ ys)) → x ∷ xs ≡ z ∷ ys) e
-            (λ r h. ap (λ zs. x ∷ zs) (rises_same xs ys (rises_tail x xs rx) (rises_tail x ys r) (tail_same x xs ys rx r h))) ry same))
+    (λ less. absurd (missing x y xs ys ry (lt_of x y less) (λ t. sym (same x) ∙ t)))
+    (λ f. either (int_lt y x)
+    (λ more. absurd (missing y x ys xs rx (lt_of y x more) (λ t. same y ∙ t)))
+    (λ g. let e : x ≡ y = omega (arith, ints, le_of x y f, le_of y x g) in
+    subst (λ (z : ℤ). Rises (z ∷ ys) → ((v : ℤ) → is_in v (x ∷ xs) ≡ is_in v (z ∷ ys)) → x ∷ xs ≡ z ∷ ys) e
+    (λ r h. ap (λ zs. x ∷ zs) (rises_same xs ys (rises_tail x xs rx) (rises_tail x ys r) (tail_same x xs ys rx r h))) ry same))
   where
     missing : (x y : ℤ) (xs ys : List ℤ) → Rises (y ∷ ys) → x <ℤ y → ((is_in x (x ∷ xs) ≡ true) → is_in x (y ∷ ys) ≡ true) → ⊥
     missing x y xs ys ry less h =
@@ -122,10 +122,10 @@ pub is_in-put : (k v : ℤ) (xs : List ℤ) → is_in v (put k xs) ≡ (int_eq v
 is_in-put k v [] = refl
 is_in-put k v (x ∷ xs) =
     either (int_lt k x)
-      (λ less. rw less refl)
-      (λ f. either (int_lt x k)
-        (λ more. rw (f, more, is_in-put k v xs) (or_swap (int_eq v x) (int_eq v k) (is_in v xs)))
-        (λ g. let e : x ≡ k = omega (arith, ints, le_of k x f, le_of x k g) in rw (f, g, ← e) (twice (int_eq v x) (is_in v xs))))
+    (λ less. rw less refl)
+    (λ f. either (int_lt x k)
+    (λ more. rw (f, more, is_in-put k v xs) (or_swap (int_eq v x) (int_eq v k) (is_in v xs)))
+    (λ g. let e : x ≡ k = omega (arith, ints, le_of k x f, le_of x k g) in rw (f, g, ← e) (twice (int_eq v x) (is_in v xs))))
   where
     twice : (a b : Bool) → (a || b) ≡ (a || (a || b))
     twice true b = refl
@@ -135,16 +135,16 @@ pub put-Rises : (k : ℤ) (xs : List ℤ) → Rises xs → Rises (put k xs)
 put-Rises k [] r = tt
 put-Rises k (x ∷ xs) r =
     either (int_lt k x)
-      (λ less. rw less (lt_of k x less, r))
-      (λ f. either (int_lt x k)
-        (λ more. rw (f, more) (rises_cons x (put k xs) (put-Rises k xs (rises_tail x xs r)) (above k x xs r (lt_of x k more))))
-        (λ g. rw (f, g) r))
+    (λ less. rw less (lt_of k x less, r))
+    (λ f. either (int_lt x k)
+    (λ more. rw (f, more) (rises_cons x (put k xs) (put-Rises k xs (rises_tail x xs r)) (above k x xs r (lt_of x k more))))
+    (λ g. rw (f, g) r))
   where
     above : (k x : ℤ) (xs : List ℤ) → Rises (x ∷ xs) → x <ℤ k → (y : ℤ) → is_in y (put k xs) ≡ true → x <ℤ y
     above k x xs r up y h =
         either (int_eq y k)
-          (λ e. rw (eq_from y k e) up)
-          (λ f. rises_above x xs r y (sym (or_right (int_eq y k) (is_in y xs) f) ∙ sym (is_in-put k y xs) ∙ h))
+        (λ e. rw (eq_from y k e) up)
+        (λ f. rises_above x xs r y (sym (or_right (int_eq y k) (is_in y xs) f) ∙ sym (is_in-put k y xs) ∙ h))
 
 -- the numbers of a list, rising, rise and are those of the list
 pub rising-Rises : (xs : List ℤ) → Rises (rising xs)
@@ -179,8 +179,8 @@ is_in-append v xs y = list_any-append (int_eq v) xs (y ∷ []) ∙ ap (λ b. is_
 pub is_in_again : (v b : ℤ) (xs : List ℤ) → is_in b xs ≡ true → is_in v xs ≡ (is_in v xs || int_eq v b)
 is_in_again v b xs h =
     either (int_eq v b)
-      (λ e. let t : is_in v xs ≡ true = rw (eq_from v b e) h in rw t refl)
-      (λ f. rw f (sym (or-false (is_in v xs))))
+    (λ e. let t : is_in v xs ≡ true = rw (eq_from v b e) h in rw t refl)
+    (λ f. rw f (sym (or-false (is_in v xs))))
 
 pub rises_push : (b : ℤ) (xs : List ℤ) → Rises xs → AllByRecursion (λ x. x ≤ℤ b) xs → is_in b xs ≡ false → Rises (xs ++ b ∷ [])
 rises_push b [] r all f = tt
@@ -229,11 +229,11 @@ weak_same [] (y ∷ ys) wx wy same = absurd (let a = same y in let b = occurs-se
 weak_same (x ∷ xs) [] wx wy same = absurd (let a = same x in let b = occurs-self x xs in omega arith)
 weak_same (x ∷ xs) (y ∷ ys) wx wy same =
     either (int_lt x y)
-      (λ less. absurd (let a = same x in let b = occurs-self x xs in let z = occurs-below x y ys (lt_of x y less) wy in omega arith))
-      (λ f. either (int_lt y x)
-        (λ more. absurd (let a = same y in let b = occurs-self y ys in let z = occurs-below y x xs (lt_of y x more) wx in omega arith))
-        (λ g. let e : x ≡ y = omega (arith, ints, le_of x y f, le_of y x g) in
-          rw e (ap (λ zs. y ∷ zs) (weak_same xs ys (weak_tail x xs wx) (weak_tail y ys wy) (λ v. rest v x y xs ys e (same v))))))
+    (λ less. absurd (let a = same x in let b = occurs-self x xs in let z = occurs-below x y ys (lt_of x y less) wy in omega arith))
+    (λ f. either (int_lt y x)
+    (λ more. absurd (let a = same y in let b = occurs-self y ys in let z = occurs-below y x xs (lt_of y x more) wx in omega arith))
+    (λ g. let e : x ≡ y = omega (arith, ints, le_of x y f, le_of y x g) in
+    rw e (ap (λ zs. y ∷ zs) (weak_same xs ys (weak_tail x xs wx) (weak_tail y ys wy) (λ v. rest v x y xs ys e (same v))))))
   where
     rest : (v x y : ℤ) (xs ys : List ℤ) → x ≡ y → occurs v (x ∷ xs) ≡ occurs v (y ∷ ys) → occurs v xs ≡ occurs v ys
     rest v x y xs ys e h =
@@ -245,8 +245,8 @@ occurs-placed : (v k : ℤ) (xs : List ℤ) → occurs v (placed k xs) ≡ occur
 occurs-placed v k [] = refl
 occurs-placed v k (x ∷ xs) =
     either (int_lt x k)
-      (λ less. rw less (later v k x xs (occurs-placed v k xs)))
-      (λ f. rw f refl)
+    (λ less. rw less (later v k x xs (occurs-placed v k xs)))
+    (λ f. rw f refl)
   where
     later : (v k x : ℤ) (xs : List ℤ) → occurs v (placed k xs) ≡ occurs v (k ∷ xs) → occurs v (x ∷ placed k xs) ≡ occurs v (k ∷ x ∷ xs)
     later v k x xs ih =
@@ -260,18 +260,18 @@ placed-Weak : (k : ℤ) (xs : List ℤ) → Weak xs → Weak (placed k xs)
 placed-Weak k [] w = tt
 placed-Weak k (x ∷ []) w =
     either (int_lt x k)
-      (λ less. let h = lt_of x k less in rw less (omega (arith, ints), tt))
-      (λ f. rw f (le_of x k f, tt))
+    (λ less. let h = lt_of x k less in rw less (omega (arith, ints), tt))
+    (λ f. rw f (le_of x k f, tt))
 placed-Weak k (x ∷ y ∷ xs) w =
     either (int_lt x k)
-      (λ less. rw less (second k x y xs (lt_of x k less) w (placed-Weak k (y ∷ xs) w.1)))
-      (λ f. rw f (le_of x k f, w))
+    (λ less. rw less (second k x y xs (lt_of x k less) w (placed-Weak k (y ∷ xs) w.1)))
+    (λ f. rw f (le_of x k f, w))
   where
     second : (k x y : ℤ) (xs : List ℤ) → x <ℤ k → Weak (x ∷ y ∷ xs) → Weak (placed k (y ∷ xs)) → Weak (x ∷ placed k (y ∷ xs))
     second k x y xs up w rest =
         either (int_lt y k)
-          (λ less. rw less (w.0, rw less at rest))
-          (λ f. rw f (omega (arith, ints), rw f at rest))
+        (λ less. rw less (w.0, rw less at rest))
+        (λ f. rw f (omega (arith, ints), rw f at rest))
 
 pub sorted-Weak : (xs : List ℤ) → Weak (sorted xs)
 sorted-Weak [] = tt
@@ -300,7 +300,7 @@ weak_from (x ∷ y ∷ xs) up =
 pub sort_is : (xs ys : List ℤ) → IsPermutation xs ys → IsSorted int_cmp ys → ys ≡ sorted xs
 sort_is xs ys moved up =
     weak_same ys (sorted xs) (weak_from ys up) (sorted-Weak xs)
-      (λ v. sum_by-IsPermutation (λ x. cond (int_eq v x) 1 0) xs ys moved ∙ sym (occurs-sorted v xs))
+    (λ v. sum_by-IsPermutation (λ x. cond (int_eq v x) 1 0) xs ys moved ∙ sym (occurs-sorted v xs))
 
 pub weak_le : (xs : List ℤ) (i j : ℕ) (d : ℤ) → Weak xs → i ≤ j → j < length xs → get_or xs i d ≤ℤ get_or xs j d
 weak_le [] i j d w order within = absurd (omega arith)
@@ -319,11 +319,11 @@ sorted_le xs i j d up order within = weak_le xs i j d (weak_from xs up) order wi
 pub of_z_eq : (x y : ℤ) → SFits w128 x → SFits w128 y → eqb (of_z w128 x) (of_z w128 y) ≡ int_eq x y
 of_z_eq x y fx fy =
     either (int_eq x y)
-      (λ t. let e : eqb (of_z w128 y) (of_z w128 y) ≡ true = grind (arith, nat_tests) in rw t (rw (eq_from x y t) e))
-      (λ f. rw f (either (eqb (of_z w128 x) (of_z w128 y))
-        (λ t. let n : of_z w128 x ≡ of_z w128 y = grind (arith, nat_tests) in
-          absurd (not_both (eq_true x y (sym (to_z-of_z w128 x fx) ∙ ap (to_z w128) n ∙ to_z-of_z w128 y fy)) f))
-        (λ g. g)))
+    (λ t. let e : eqb (of_z w128 y) (of_z w128 y) ≡ true = grind (arith, nat_tests) in rw t (rw (eq_from x y t) e))
+    (λ f. rw f (either (eqb (of_z w128 x) (of_z w128 y))
+    (λ t. let n : of_z w128 x ≡ of_z w128 y = grind (arith, nat_tests) in
+    absurd (not_both (eq_true x y (sym (to_z-of_z w128 x fx) ∙ ap (to_z w128) n ∙ to_z-of_z w128 y fy)) f))
+    (λ g. g)))
 
 -- ---- how many bounds are at most a value
 
@@ -358,8 +358,8 @@ rises_of [] h = tt
 rises_of (x ∷ []) h = tt
 rises_of (x ∷ y ∷ bounds) h =
     either (int_lt x y)
-      (λ t. (lt_of x y t, rises_of (y ∷ bounds) (rw t at h)))
-      (λ f. let z : false ≡ true = rw f at h in absurd (cc))
+    (λ t. (lt_of x y t, rises_of (y ∷ bounds) (rw t at h)))
+    (λ f. let z : false ≡ true = rw f at h in absurd (cc))
 
 pub kept_of : (b : Binning) (vs : List ℤ) → IsGivenBinning b → IsKeying (keying_of b vs)
 kept_of binning.Each vs given = tt
@@ -377,9 +377,9 @@ strict_of (x ∷ y ∷ xs) w once = (apart x y xs w.0 (once x), strict_of (y ∷
     apart : (x y : ℤ) (xs : List ℤ) → x ≤ℤ y → occurs x (x ∷ y ∷ xs) ≤ 1 → x <ℤ y
     apart x y xs h once =
         either (int_eq y x)
-          (λ t. let a = occurs-self x (y ∷ xs) in
-            let b : occurs x (y ∷ xs) ≡ 1 + occurs x xs = occurs-cons x y xs ∙ (rw (eq_swap x y, t) refl) in absurd (omega arith))
-          (λ f. strict x y h f)
+        (λ t. let a = occurs-self x (y ∷ xs) in
+        let b : occurs x (y ∷ xs) ≡ 1 + occurs x xs = occurs-cons x y xs ∙ (rw (eq_swap x y, t) refl) in absurd (omega arith))
+        (λ f. strict x y h f)
 
 pub occurs-none : (v : ℤ) (xs : List ℤ) → is_in v xs ≡ false → occurs v xs ≡ 0
 occurs-none v [] h = refl
@@ -389,7 +389,7 @@ pub occurs-distinct : (v : ℤ) (xs : List ℤ) → AreDistinct xs → occurs v 
 occurs-distinct v [] apart = omega arith
 occurs-distinct v (x ∷ xs) apart =
     either (int_eq v x)
-      (λ t. let n : occurs v xs ≡ 0 = rw (eq_from v x t) (occurs-none x xs apart.0) in
-        let c : occurs v (x ∷ xs) ≡ 1 + occurs v xs = occurs-cons v x xs ∙ (rw t refl) in omega (arith, n, c))
-      (λ f. let rest = occurs-distinct v xs apart.1 in
-        let c : occurs v (x ∷ xs) ≡ 0 + occurs v xs = occurs-cons v x xs ∙ (rw f refl) in omega (arith, rest, c))
+    (λ t. let n : occurs v xs ≡ 0 = rw (eq_from v x t) (occurs-none x xs apart.0) in
+    let c : occurs v (x ∷ xs) ≡ 1 + occurs v xs = occurs-cons v x xs ∙ (rw t refl) in omega (arith, n, c))
+    (λ f. let rest = occurs-distinct v xs apart.1 in
+    let c : occurs v (x ∷ xs) ≡ 0 + occurs v xs = occurs-cons v x xs ∙ (rw f refl) in omega (arith, rest, c))

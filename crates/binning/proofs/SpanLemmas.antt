@@ -288,8 +288,8 @@ pub has-nonempty : (spans : List Span) (x : ℤ) → has (filter has_number span
 has-nonempty [] x = refl
 has-nonempty (s ∷ spans) x =
     either (has_number s)
-      (λ some. rw some (ap (λ b. in_span x s || b) (has-nonempty spans x)))
-      (λ none. rw (none, empty_span s x none) (has-nonempty spans x))
+    (λ some. rw some (ap (λ b. in_span x s || b) (has-nonempty spans x)))
+    (λ none. rw (none, empty_span s x none) (has-nonempty spans x))
   where
     empty_span : (s : Span) (x : ℤ) → has_number s ≡ false → in_span x s ≡ false
     empty_span s x none = grind (arith, ints)
@@ -298,16 +298,16 @@ pub numbers-nonempty : (spans : List Span) → AllByRecursion HasNumber (filter 
 numbers-nonempty [] = tt
 numbers-nonempty (s ∷ spans) =
     elim (has_number s) as (λ b. (has_number s ≡ b) → AllByRecursion HasNumber (cond b (s ∷ filter has_number spans) (filter has_number spans))) [
-      true ↦ λ some. (le_from s.least s.greatest some, numbers-nonempty spans)
-    | false ↦ λ none. numbers-nonempty spans
+      | true ↦ λ some. (le_from s.least s.greatest some, numbers-nonempty spans)
+      | false ↦ λ none. numbers-nonempty spans
     ] refl
 
 pub range-nonempty : (spans : List Span) → AllByRecursion IsSpanInRange spans → AllByRecursion IsSpanInRange (filter has_number spans)
 range-nonempty [] all = tt
 range-nonempty (s ∷ spans) all =
     elim (has_number s) as (λ b. AllByRecursion IsSpanInRange (cond b (s ∷ filter has_number spans) (filter has_number spans))) [
-      true ↦ (all.0, range-nonempty spans all.1)
-    | false ↦ range-nonempty spans all.1
+      | true ↦ (all.0, range-nonempty spans all.1)
+      | false ↦ range-nonempty spans all.1
     ]
 
 pub leasts_rise : (spans : List Span) → ((k : ℕ) (d : Span) → k + 1 < length spans → int_lt (get_or spans (k + 1) d).least (get_or spans k d).least ≡ false) → LeastsRise spans

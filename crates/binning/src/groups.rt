@@ -112,10 +112,7 @@ fn rooms(alloc: Global, counts: &[u32]) -> Result<Vec<Items<u32>>, AllocError>
 {
     let mut rows = Vec::with_capacity(alloc, counts.len())?;
     for count in counts {
-        rows.push(Items::from_vec(Vec::with_capacity(
-            alloc,
-            *count as usize,
-        )?))?;
+        rows.push(Items::from_vec(Vec::with_capacity(alloc, *count as usize)?))?;
     }
     Ok(rows)
 }

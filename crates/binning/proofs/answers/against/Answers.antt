@@ -39,10 +39,10 @@ returns-then-span-greatest c =
     let r : IsFirstReaching list c.args.least place = simp to_z-of_z at c.first_reaching-place.ensures in
     let low : (get_or list place d).least ≤ℤ c.args.greatest = omega (arith, ints) in
     let open_ : covers c.args.least c.args.greatest (get_or list place d) ≡ false =
-      elim c.else-span-least.branch [
-        else-span-least-via-then-span-least+else-greatest-span w ↦ uncovered_high (get_or list place d) c.args.least c.args.greatest (omega (arith, ints))
+    elim c.else-span-least.branch [
+      | else-span-least-via-then-span-least+else-greatest-span w ↦ uncovered_high (get_or list place d) c.args.least c.args.greatest (omega (arith, ints))
       | else-span-least-via-else-span-least w ↦ uncovered_low (get_or list place d) c.args.least c.args.greatest (omega (arith, ints))
-      ] in
+    ] in
     against_unknown list c.args.least c.args.greatest place d c.requires apart r c.if-place-list.false open_ low ∙ ap (λ (s : List Span). against c.args.least c.args.greatest s) c.list-list.ensures.list
 
 pub returns-else-span-greatest : goal.returns-else-span-greatest
@@ -55,5 +55,5 @@ returns-else-span-greatest c =
     let r : IsFirstReaching list c.args.least place = simp to_z-of_z at c.first_reaching-place.ensures in
     let high : c.args.greatest <ℤ (get_or list place d).least = omega (arith, ints) in
     let open_ : covers c.args.least c.args.greatest (get_or list place d) ≡ false =
-      uncovered_low (get_or list place d) c.args.least c.args.greatest (omega (arith, ints)) in
+    uncovered_low (get_or list place d) c.args.least c.args.greatest (omega (arith, ints)) in
     against_no list c.args.least c.args.greatest place d c.requires apart r c.if-place-list.false open_ high ∙ ap (λ (s : List Span). against c.args.least c.args.greatest s) c.list-list.ensures.list

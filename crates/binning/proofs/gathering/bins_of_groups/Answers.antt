@@ -16,6 +16,6 @@ returns c =
     let gs = c.args.groups.now in
     let ps = c.args.places.now in
     λ rule column g.
-      c.in_ok-bins.ensures
-        ∙ ap (λ (o : List KeyPlace). map (λ pair. bin_for gs ps pair.place) o) c.deref.ensures.value
-        ∙ bins_final (held rule gs ps) column c.in_ok-order.order.items c.requires.few c.in_ok-order.ensures g
+    c.in_ok-bins.ensures
+    ∙ ap (λ (o : List KeyPlace). map (λ pair. bin_for gs ps pair.place) o) c.deref.ensures.value
+    ∙ bins_final (held rule gs ps) column c.in_ok-order.order.items c.requires.few c.in_ok-order.ensures g

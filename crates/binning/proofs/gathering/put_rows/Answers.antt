@@ -49,10 +49,10 @@ loop-row-preserved c =
       few = omega (arith, longer, more, inv.few);
       rows = omega (arith, longer, inv.rows);
       gathered = λ column g.
-        let front = cells (take i mask) (take i vs) in
-        let e : column ++ cells (take (i + 1) mask) (take (i + 1) vs) ≡ (column ++ front) ++ c.cell-cell.result ∷ [] =
+          let front = cells (take i mask) (take i vs) in
+          let e : column ++ cells (take (i + 1) mask) (take (i + 1) vs) ≡ (column ++ front) ++ c.cell-cell.result ∷ [] =
           ap (λ (xs : List (Option ℤ)). column ++ xs) (cells_more mask vs i false (pos 0) there within ∙ ap (λ (x : Option ℤ). front ++ x ∷ []) (sym told)) ∙ sym (append_assoc column front (c.cell-cell.result ∷ [])) in
-        rw (p.groups, p.places, e) (gathered_more rule gs ps (column ++ front) c.cell-cell.result (inv.gathered column g));
+          rw (p.groups, p.places, e) (gathered_more rule gs ps (column ++ front) c.cell-cell.result (inv.gathered column g));
     }
 
 pub returns-clause-gathered : goal.returns-clause-gathered

@@ -19,7 +19,7 @@ loop-span-preserved c =
     let spans = c.args.spans.now in
     let within : i < length spans = omega arith in
     rw (← seen_more (get_or spans 0 d) (get_or spans i d) spans i d within refl)
-      (c.in_ok-current.ensures (drop (i + 1) spans) (get_or spans 0 d ∷ take i spans) (rw (← next_of spans i d within) c.loop-span.invariant))
+    (c.in_ok-current.ensures (drop (i + 1) spans) (get_or spans 0 d ∷ take i spans) (rw (← next_of spans i d within) c.loop-span.invariant))
 
 pub returns-clause-same : goal.returns-clause-same
 returns-clause-same c =

@@ -25,7 +25,7 @@ merged-requires-clause-sorted c =
 pub returns-clause-same : goal.returns-clause-same
 returns-clause-same c =
     λ v. c.in_ok-items.ensures.same v
-      ∙ ap (λ (s : List Span). has s v) c.deref.ensures.value
-      ∙ sym (list_any-IsPermutation (in_span v) _ _ c.sort_unstable_by_key.ensures.permutation)
-      ∙ ap (λ (s : List Span). has s v) c.in_ok-kept.ensures
-      ∙ has-nonempty c.args.list.now v
+    ∙ ap (λ (s : List Span). has s v) c.deref.ensures.value
+    ∙ sym (list_any-IsPermutation (in_span v) _ _ c.sort_unstable_by_key.ensures.permutation)
+    ∙ ap (λ (s : List Span). has s v) c.in_ok-kept.ensures
+    ∙ has-nonempty c.args.list.now v

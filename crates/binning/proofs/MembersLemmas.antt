@@ -48,7 +48,7 @@ apart_chosen : (v : List Bool) (set : ℕ → Bool) (vs : List (List Bool)) → 
 unfolding ApartFrom
 apart_chosen v set [] h = tt
 apart_chosen v set (w ∷ ws) h = elim (set 0) as (λ t. ApartFrom v (if t then w ∷ chosen (λ b. set (suc b)) ws else chosen (λ b. set (suc b)) ws))
-  [ true ↦ (h.0, apart_chosen v (λ b. set (suc b)) ws h.1) | false ↦ apart_chosen v (λ b. set (suc b)) ws h.1 ]
+    [ true ↦ (h.0, apart_chosen v (λ b. set (suc b)) ws h.1) | false ↦ apart_chosen v (λ b. set (suc b)) ws h.1 ]
 
 apart_union : (v : List Bool) (len : ℕ) (vs : List (List Bool)) → ApartFrom v vs → Apart v (union len vs)
 unfolding ApartFrom union
@@ -75,9 +75,10 @@ more_long len v vs h k (suc i) d l = k i d (omega arith)
 
 pub chosen_long : (len : ℕ) (set : ℕ → Bool) (vs : List (List Bool)) → All (λ x. length x ≡ len) vs → All (λ x. length x ≡ len) (chosen set vs)
 chosen_long len set [] h = none_long len
-chosen_long len set (v ∷ vs) h = elim (set 0) as (λ t. All (λ x. length x ≡ len) (if t then v ∷ chosen (λ b. set (suc b)) vs else chosen (λ b. set (suc b)) vs))
-  [ true ↦ more_long len v (chosen (λ b. set (suc b)) vs) (head_long len v vs h) (chosen_long len (λ b. set (suc b)) vs (tail_long len v vs h))
-  | false ↦ chosen_long len (λ b. set (suc b)) vs (tail_long len v vs h) ]
+chosen_long len set (v ∷ vs) h = elim (set 0) as (λ t. All (λ x. length x ≡ len) (if t then v ∷ chosen (λ b. set (suc b)) vs else chosen (λ b. set (suc b)) vs)) [
+  | true ↦ more_long len v (chosen (λ b. set (suc b)) vs) (head_long len v vs h) (chosen_long len (λ b. set (suc b)) vs (tail_long len v vs h))
+  | false ↦ chosen_long len (λ b. set (suc b)) vs (tail_long len v vs h)
+]
 
 pub length-union_of : (len : ℕ) (set : ℕ → Bool) (vs : List (List Bool)) → All (λ x. length x ≡ len) vs → length (union_of len set vs) ≡ len
 length-union_of len set vs h = length-union len (chosen set vs) (chosen_long len set vs h)
@@ -100,9 +101,10 @@ kept_false (x ∷ v) = ap (λ l. false ∷ l) (kept_false v)
 
 pub union_of-cons : (len : ℕ) (set : ℕ → Bool) (v : List Bool) (vs : List (List Bool)) → All (λ x. length x ≡ len) (v ∷ vs) → union_of len set (v ∷ vs) ≡ each_place or (kept_if (set 0) v) (union_of len (λ b. set (suc b)) vs)
 unfolding union
-union_of-cons len set v vs h = elim (set 0) as (λ t. union len (if t then v ∷ chosen (λ b. set (suc b)) vs else chosen (λ b. set (suc b)) vs) ≡ each_place or (kept_if t v) (union_of len (λ b. set (suc b)) vs))
-  [ true ↦ ap (λ l. each_place or l (union_of len (λ b. set (suc b)) vs)) (sym (kept_true v))
-  | false ↦ sym (ap (λ l. each_place or l (union_of len (λ b. set (suc b)) vs)) (kept_false v) ∙ each_zeros_left (length v) (union_of len (λ b. set (suc b)) vs) (length-union_of len (λ b. set (suc b)) vs (tail_long len v vs h) ∙ sym (head_long len v vs h))) ]
+union_of-cons len set v vs h = elim (set 0) as (λ t. union len (if t then v ∷ chosen (λ b. set (suc b)) vs else chosen (λ b. set (suc b)) vs) ≡ each_place or (kept_if t v) (union_of len (λ b. set (suc b)) vs)) [
+  | true ↦ ap (λ l. each_place or l (union_of len (λ b. set (suc b)) vs)) (sym (kept_true v))
+  | false ↦ sym (ap (λ l. each_place or l (union_of len (λ b. set (suc b)) vs)) (kept_false v) ∙ each_zeros_left (length v) (union_of len (λ b. set (suc b)) vs) (length-union_of len (λ b. set (suc b)) vs (tail_long len v vs h) ∙ sym (head_long len v vs h)))
+]
 
 and_true : (x : Bool) → and x true ≡ x
 and_true true = refl
@@ -204,9 +206,10 @@ one_bin vs = (a b row : ℕ) → get_or (get_or vs a []) row false ≡ true → 
 all_apart : (vs : List (List Bool)) → one_bin vs → AllApart vs
 unfolding AllApart one_bin
 all_apart [] h = tt
-all_apart (v ∷ vs) h =
-    (first_apart v vs (λ b row x y. (let e : zero ≡ suc b = h 0 (suc b) row x y in absurd (omega (arith, e)))),
-     all_apart vs (λ a b row x y. (let e : suc a ≡ suc b = h (suc a) (suc b) row x y in omega (arith, e))))
+all_apart (v ∷ vs) h = (
+  first_apart v vs (λ b row x y. (let e : zero ≡ suc b = h 0 (suc b) row x y in absurd (omega (arith, e)))),
+  all_apart vs (λ a b row x y. (let e : suc a ≡ suc b = h (suc a) (suc b) row x y in omega (arith, e))),
+)
 
 pub bins_apart : (len : ℕ) (vs : List (List Bool)) → AreBins len vs → AllApart vs
 unfolding one_bin
@@ -251,10 +254,11 @@ classes_long len class vs a zero h = none_long len
 classes_long len class vs a (suc n) h = more_long len (union_of len (λ b. class b == a) vs) (classes len class vs (a + 1) n) (length-union_of len (λ b. class b == a) vs h) (classes_long len class vs (a + 1) n h)
 
 first_class : (set : ℕ → Bool) (a n c : ℕ) → or (set (a + 0) && (c == a)) (in_run (a + 1) (a + 1 + n) c && set c) ≡ (in_run a (a + suc n) c && set c)
-first_class set a n c = elim (c == a) as (λ t. (c == a) ≡ t → or (set (a + 0) && t) (in_run (a + 1) (a + 1 + n) c && set c) ≡ (in_run a (a + suc n) c && set c))
-  [ true ↦ λ e. (let same : c ≡ a + 0 = grind (arith, nat_tests) in let out : in_run (a + 1) (a + 1 + n) c ≡ false = grind (arith, nat_tests) in let inside : in_run a (a + suc n) c ≡ true = grind (arith, nat_tests) in rw (out, inside, ← ap set same) (and_one (set c)))
-  | false ↦ λ e. (let same : in_run (a + 1) (a + 1 + n) c ≡ in_run a (a + suc n) c = grind (arith, nat_tests) in rw (and_none (set (a + 0)), same) refl) ]
-  refl
+first_class set a n c = elim (c == a) as (λ t. (c == a) ≡ t → or (set (a + 0) && t) (in_run (a + 1) (a + 1 + n) c && set c) ≡ (in_run a (a + suc n) c && set c)) [
+  | true ↦ λ e. (let same : c ≡ a + 0 = grind (arith, nat_tests) in let out : in_run (a + 1) (a + 1 + n) c ≡ false = grind (arith, nat_tests) in let inside : in_run a (a + suc n) c ≡ true = grind (arith, nat_tests) in rw (out, inside, ← ap set same) (and_one (set c)))
+  | false ↦ λ e. (let same : in_run (a + 1) (a + 1 + n) c ≡ in_run a (a + suc n) c = grind (arith, nat_tests) in rw (and_none (set (a + 0)), same) refl)
+]
+    refl
 
 -- a union of classes is the union of the bins whose class is in the set
 classes-union : (len : ℕ) (class : ℕ → ℕ) (vs : List (List Bool)) (set : ℕ → Bool) (a n : ℕ) → All (λ x. length x ≡ len) vs → AllApart vs → union_of len (λ t. set (a + t)) (classes len class vs a n) ≡ union_of len (λ b. in_run a (a + n) (class b) && set (class b)) vs
@@ -264,7 +268,7 @@ classes-union len class vs set a (suc n) h p =
     union_of-cons len (λ t. set (a + t)) (union_of len (λ b. class b == a) vs) (classes len class vs (a + 1) n) (classes_long len class vs a (suc n) h)
     ∙ ap (λ l. each_place or l (union_of len (λ t. set (a + suc t)) (classes len class vs (a + 1) n))) (kept_if-union_of len (set (a + 0)) (λ b. class b == a) vs h)
     ∙ ap (λ l. each_place or (union_of len (λ b. set (a + 0) && (class b == a)) vs) l)
-      (union_of-same len (λ t. set (a + suc t)) (λ t. set (a + 1 + t)) (classes len class vs (a + 1) n) (λ t l. ap set (omega arith)) ∙ classes-union len class vs set (a + 1) n h p)
+    (union_of-same len (λ t. set (a + suc t)) (λ t. set (a + 1 + t)) (classes len class vs (a + 1) n) (λ t l. ap set (omega arith)) ∙ classes-union len class vs set (a + 1) n h p)
     ∙ union_of-op or refl len (λ b. set (a + 0) && (class b == a)) (λ b. in_run (a + 1) (a + 1 + n) (class b) && set (class b)) vs h p
     ∙ union_of-same len (λ b. or (set (a + 0) && (class b == a)) (in_run (a + 1) (a + 1 + n) (class b) && set (class b))) (λ b. in_run a (a + suc n) (class b) && set (class b)) vs (λ b l. first_class set a n (class b))
 
@@ -302,9 +306,10 @@ pub row_of_bin : (len : ℕ) (set : ℕ → Bool) (vs : List (List Bool)) (row :
 unfolding union
 row_of_bin len set [] row h e = absurd (let f : get_or (replicate len false) row false ≡ false = not_in_zeros len row in cc)
 row_of_bin len set (v ∷ vs) row h e =
-    elim (true_of_each (kept_if (set 0) v) (union_of len (λ b. set (suc b)) vs) row (sym (ap (λ l. get_or l row false) (union_of-cons len set v vs h)) ∙ e))
-    [ inl x ↦ (let k = kept_row (set 0) v row x in (0, record { chosen = k.0; has = k.1 }))
-    | inr x ↦ (let r = row_of_bin len (λ b. set (suc b)) vs row (tail_long len v vs h) x in (suc (r.0), record { chosen = r.1.chosen; has = r.1.has })) ]
+    elim (true_of_each (kept_if (set 0) v) (union_of len (λ b. set (suc b)) vs) row (sym (ap (λ l. get_or l row false) (union_of-cons len set v vs h)) ∙ e)) [
+      | inl x ↦ (let k = kept_row (set 0) v row x in (0, record { chosen = k.0; has = k.1 }))
+      | inr x ↦ (let r = row_of_bin len (λ b. set (suc b)) vs row (tail_long len v vs h) x in (suc (r.0), record { chosen = r.1.chosen; has = r.1.has }))
+    ]
 
 class_at : (len : ℕ) (class : ℕ → ℕ) (vs : List (List Bool)) (a n t row : ℕ) → All (λ x. length x ≡ len) vs → get_or (get_or (classes len class vs a n) t []) row false ≡ true → (b : ℕ) × (class b ≡ a + t) × (get_or (get_or vs b []) row false ≡ true)
 class_at len class vs a zero t row h e = absurd (cc)
@@ -331,9 +336,9 @@ bin_is len (v ∷ vs) (suc k) d h l =
     let other : (0 == suc k) ≡ false = grind (arith, nat_tests) in
     bin_is len vs k d (tail_long len v vs h) (omega arith)
     ∙ sym (union_of-cons len (λ b. b == suc k) v vs h
-      ∙ ap (λ u. each_place or u (union_of len (λ b. suc b == suc k) vs)) (ap (λ t. kept_if t v) other ∙ kept_false v)
-      ∙ each_zeros_left (length v) (union_of len (λ b. suc b == suc k) vs) (length-union_of len (λ b. suc b == suc k) vs (tail_long len v vs h) ∙ sym (head_long len v vs h))
-      ∙ union_of-same len (λ b. suc b == suc k) (λ b. b == k) vs (λ b m. grind (arith, nat_tests)))
+    ∙ ap (λ u. each_place or u (union_of len (λ b. suc b == suc k) vs)) (ap (λ t. kept_if t v) other ∙ kept_false v)
+    ∙ each_zeros_left (length v) (union_of len (λ b. suc b == suc k) vs) (length-union_of len (λ b. suc b == suc k) vs (tail_long len v vs h) ∙ sym (head_long len v vs h))
+    ∙ union_of-same len (λ b. suc b == suc k) (λ b. b == k) vs (λ b m. grind (arith, nat_tests)))
 
 get_or-vectors : (bins : List Bin) (k : ℕ) (d : Bin) (e : List Bool) → k < length bins → get_or (vectors bins) k e ≡ (get_or bins k d).rows
 get_or-vectors [] k d e h = absurd (omega arith)

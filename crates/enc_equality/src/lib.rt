@@ -5,4 +5,3 @@
 mod equality;
 
 pub use equality::{Equality, append_places};
-

@@ -53,8 +53,8 @@ more_sliding rows w k bins unions v next leaves enters r some below at out inn l
   number = omega (arith, length-append unions (next ∷ []), r.number);
   long = All-append (λ x. length x ≡ rows) unions (next ∷ []) r.long (one_long rows next long);
   values = λ apart.
-    let here : v ≡ rows_from rows w (vectors bins) k = at ∙ ap (λ u. get_or u k v) (r.values apart) ∙ get_or-map-range_with_len (rows_from rows w (vectors bins)) 0 (k + 1) k k v (omega arith) (omega arith) in
-    ap (λ u. u ++ next ∷ []) (r.values apart)
-    ∙ ap (λ u. map (rows_from rows w (vectors bins)) (range_with_len 0 (k + 1)) ++ u ∷ []) (e ∙ slid_from rows w k bins v leaves enters apart some below here out inn)
-    ∙ sym (map-range_with_len_more (rows_from rows w (vectors bins)) 0 (k + 1) (k + 1) (omega arith));
+      let here : v ≡ rows_from rows w (vectors bins) k = at ∙ ap (λ u. get_or u k v) (r.values apart) ∙ get_or-map-range_with_len (rows_from rows w (vectors bins)) 0 (k + 1) k k v (omega arith) (omega arith) in
+      ap (λ u. u ++ next ∷ []) (r.values apart)
+      ∙ ap (λ u. map (rows_from rows w (vectors bins)) (range_with_len 0 (k + 1)) ++ u ∷ []) (e ∙ slid_from rows w k bins v leaves enters apart some below here out inn)
+      ∙ sym (map-range_with_len_more (rows_from rows w (vectors bins)) 0 (k + 1) (k + 1) (omega arith));
 }

@@ -7,4 +7,3 @@ mod interval;
 mod sliding;
 
 pub use interval::IntervalCode;
-

@@ -48,9 +48,9 @@ next_up_to rows bins (suc n) unions bin next r h l e f =
 
 pub one_more : (rows : ℕ) (bins : List Bin) (n m : ℕ) (unions : List (List Bool)) (bin : Bin) (next : List Bool) → AreRunning rows bins n unions → n < length (take m bins) → m ≤ length bins → bin ≡ get_or (take m bins) n bin → All (λ b. length b.rows ≡ rows) bins → length next ≡ length bin.rows → Follows unions bin next → AreRunning rows bins (n + 1) (unions ++ next ∷ [])
 one_more rows bins n m unions bin next r inside k e each h f =
-  let l : n < m = omega (arith, length-take m bins) in
-  record {
-  number = omega (arith, length-append unions (next ∷ []), r.number);
-  long = All-append (λ v. length v ≡ rows) unions (next ∷ []) r.long (one_long rows next (h ∙ ap (λ b. length b.rows) (e ∙ get_or-take m bins n bin l) ∙ each n bin (omega arith)));
-  values = λ apart. ap (λ u. u ++ next ∷ []) (r.values apart) ∙ ap (λ u. map (up_to rows bins) (range_with_len 0 n) ++ u ∷ []) (next_up_to rows bins n unions bin next r apart (omega arith) (e ∙ get_or-take m bins n bin l) f) ∙ sym (map-range_with_len_more (up_to rows bins) 0 n n (omega arith));
-}
+    let l : n < m = omega (arith, length-take m bins) in
+    record {
+      number = omega (arith, length-append unions (next ∷ []), r.number);
+      long = All-append (λ v. length v ≡ rows) unions (next ∷ []) r.long (one_long rows next (h ∙ ap (λ b. length b.rows) (e ∙ get_or-take m bins n bin l) ∙ each n bin (omega arith)));
+      values = λ apart. ap (λ u. u ++ next ∷ []) (r.values apart) ∙ ap (λ u. map (up_to rows bins) (range_with_len 0 n) ++ u ∷ []) (next_up_to rows bins n unions bin next r apart (omega arith) (e ∙ get_or-take m bins n bin l) f) ∙ sym (map-range_with_len_more (up_to rows bins) 0 n n (omega arith));
+    }

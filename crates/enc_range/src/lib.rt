@@ -6,4 +6,3 @@
 mod range;
 
 pub use range::RangeCode;
-

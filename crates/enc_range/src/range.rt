@@ -39,7 +39,13 @@ impl Encoding for RangeCode {
         Ok(running_unions(alloc, bins, rows, steps)?)
     }
 
-    fn needs(&self, alloc: Global, bins: u32, first: u32, end: u32) -> Result<Vec<u32>, AllocError> {
+    fn needs(
+        &self,
+        alloc: Global,
+        bins: u32,
+        first: u32,
+        end: u32,
+    ) -> Result<Vec<u32>, AllocError> {
         let mut places = Vec::with_capacity(alloc, 2)?;
         if first > 0 {
             places.push(first - 1)?;

@@ -35,7 +35,11 @@ fn words_of(rt: &HostRuntime) -> io::Result<Vec<String>> {
     Ok(words)
 }
 
-fn command<L: Ledger>(rt: &HostRuntime, words: &[String], blank: Blank) -> Result<Status, AllocError>
+fn command<L: Ledger>(
+    rt: &HostRuntime,
+    words: &[String],
+    blank: Blank,
+) -> Result<Status, AllocError>
     requires ledger { blank.name ≡ L.name }
     requires parts { blank.parts ≡ L.parts }
     requires some { 0 < blank.parts }

@@ -50,14 +50,7 @@ fn expect<R: Abort + AllocGlobal + Count>(
     let mut source = MemSource::make(rt.alloc(), case.input, 1 << 16, case.source_fails)?;
     let mut out = MemSink::make(rt.alloc(), case.sink_fails)?;
     let words = case.words;
-    let code = answer::<Brand>(
-        rt.alloc(),
-        rt.blank(),
-        &words,
-        &mut source,
-        store,
-        &mut out,
-    )?;
+    let code = answer::<Brand>(rt.alloc(), rt.blank(), &words, &mut source, store, &mut out)?;
     assert!(rt; code == case.code, "{}", case.printed);
     assert!(rt;
         out.written() == case.printed.as_bytes(),

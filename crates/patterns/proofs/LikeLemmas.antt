@@ -28,7 +28,7 @@ next_later : (t : List ℕ) → Later t (next_character t)
 next_later [] = ([], refl)
 next_later (b ∷ bs) =
     elim (goes_on b) as (λ c. goes_on b ≡ c → Later (b ∷ bs) (next_character (b ∷ bs))) [
-        true ↦ λ h. let more = next_later bs in (b ∷ more.0, ap (λ r. b ∷ r) more.1 ∙ ap (λ r. b ∷ more.0 ++ r) (sym (next-inner b bs h)))
+      | true ↦ λ h. let more = next_later bs in (b ∷ more.0, ap (λ r. b ∷ r) more.1 ∙ ap (λ r. b ∷ more.0 ++ r) (sym (next-inner b bs h)))
       | false ↦ λ h. ([], sym (next-outer b bs h))
     ] refl
 
@@ -36,7 +36,7 @@ skip_later : (front t : List ℕ) → Later (next_character (front ++ t)) (next_
 skip_later [] t = ([], refl)
 skip_later (f ∷ fs) t =
     elim (goes_on f) as (λ c. goes_on f ≡ c → Later (next_character (f ∷ fs ++ t)) (next_character t)) [
-        true ↦ λ h. let more = skip_later fs t in (more.0, next-inner f (fs ++ t) h ∙ more.1)
+      | true ↦ λ h. let more = skip_later fs t in (more.0, next-inner f (fs ++ t) h ∙ more.1)
       | false ↦ λ h. let more = next_later t in
           (f ∷ fs ++ more.0, next-outer f (fs ++ t) h ∙ ap (λ r. f ∷ fs ++ r) more.1 ∙ ap (λ r. f ∷ r) (sym (append_assoc fs more.0 (next_character t))))
     ] refl
@@ -83,8 +83,8 @@ found_at : (piece t r : List ℕ) → behind_first piece t ≡ Some r → (front
 found_at piece [] r h = ([], [], refl, h)
 found_at piece (b ∷ bs) r h =
     elim (behind piece (b ∷ bs)) as (λ o. behind piece (b ∷ bs) ≡ o → first_of o (behind_first piece bs) ≡ Some r
-        → (front : List ℕ) × (rest : List ℕ) × (b ∷ bs ≡ front ++ rest) × (behind piece rest ≡ Some r)) [
-        None ↦ λ e g. let more = found_at piece bs r g in (b ∷ more.0, more.1, ap (λ x. b ∷ x) more.2, more.3)
+    → (front : List ℕ) × (rest : List ℕ) × (b ∷ bs ≡ front ++ rest) × (behind piece rest ≡ Some r)) [
+      | None ↦ λ e g. let more = found_at piece bs r g in (b ∷ more.0, more.1, ap (λ x. b ∷ x) more.2, more.3)
       | Some x ↦ λ e g. ([], b ∷ bs, refl, e ∙ g)
     ] refl h
 
@@ -115,17 +115,17 @@ first_is_enough piece next pieces [] = or_none (in_order (piece ∷ next ∷ pie
 first_is_enough piece next pieces (b ∷ bs) =
     let test = in_order (next ∷ pieces) in
     let later : (r : List ℕ) → behind piece (b ∷ bs) ≡ Some r → holds_after test (behind_first piece bs) ≡ true → holds_after test (Some r) ≡ true =
-      λ r here. elim (behind_first piece bs) as (λ o. behind_first piece bs ≡ o → holds_after test o ≡ true → holds_after test (Some r) ≡ true) [
-          None ↦ λ e g. absurd (cc)
-        | Some r' ↦ λ e g.
-            let at = found_at piece bs r' e in
-            let whole : behind piece ((b ∷ at.0) ++ at.1) ≡ Some r = ap (λ x. behind piece (b ∷ x)) (sym at.2) ∙ here in
-            let less = behind_later piece (b ∷ at.0) at.1 r r' whole at.3 in
-            ap (λ x. list_any test (rests_of x)) less.1 ∙ any_later test less.0 r' g
-      ] refl in
+    λ r here. elim (behind_first piece bs) as (λ o. behind_first piece bs ≡ o → holds_after test o ≡ true → holds_after test (Some r) ≡ true) [
+      | None ↦ λ e g. absurd (cc)
+      | Some r' ↦ λ e g.
+          let at = found_at piece bs r' e in
+          let whole : behind piece ((b ∷ at.0) ++ at.1) ≡ Some r = ap (λ x. behind piece (b ∷ x)) (sym at.2) ∙ here in
+          let less = behind_later piece (b ∷ at.0) at.1 r r' whole at.3 in
+          ap (λ x. list_any test (rests_of x)) less.1 ∙ any_later test less.0 r' g
+    ] refl in
     ap (λ x. in_order (piece ∷ next ∷ pieces) (b ∷ bs) || x) (first_is_enough piece next pieces bs)
     ∙ elim (behind piece (b ∷ bs)) as (λ o. behind piece (b ∷ bs) ≡ o → (holds_after test o || holds_after test (behind_first piece bs)) ≡ holds_after test (first_of o (behind_first piece bs))) [
-        None ↦ λ e. refl
+      | None ↦ λ e. refl
       | Some r ↦ λ e. or_same (holds_after test (Some r)) (holds_after test (behind_first piece bs)) (later r e)
     ] refl
 
@@ -138,7 +138,7 @@ onto-last : (p : ℕ) (q t : List ℕ) → is_end (behind (p ∷ q) t) ≡ byte_
 onto-last p q [] = elim (p == 95) as (λ any. false ≡ byte_then any p (λ x. is_end (behind q x)) []) [ true ↦ refl | false ↦ refl ]
 onto-last p q (b ∷ bs) =
     elim (p == 95) as (λ any. is_end (step any (b == p) q bs) ≡ byte_then any p (λ x. is_end (behind q x)) (b ∷ bs)) [
-        true ↦ refl
+      | true ↦ refl
       | false ↦ elim (b == p) as (λ same. is_end (step false same q bs) ≡ (same && is_end (behind q bs))) [ true ↦ refl | false ↦ refl ]
     ]
 
@@ -146,7 +146,7 @@ onto-more : (test : List ℕ → Bool) (p : ℕ) (q t : List ℕ) → holds_afte
 onto-more test p q [] = elim (p == 95) as (λ any. false ≡ byte_then any p (λ x. holds_after test (behind q x)) []) [ true ↦ refl | false ↦ refl ]
 onto-more test p q (b ∷ bs) =
     elim (p == 95) as (λ any. holds_after test (step any (b == p) q bs) ≡ byte_then any p (λ x. holds_after test (behind q x)) (b ∷ bs)) [
-        true ↦ refl
+      | true ↦ refl
       | false ↦ elim (b == p) as (λ same. holds_after test (step false same q bs) ≡ (same && holds_after test (behind q bs))) [ true ↦ refl | false ↦ refl ]
     ]
 
@@ -216,8 +216,8 @@ stand-in_order [] t h = absurd (cc)
 stand-in_order (piece ∷ []) t h = end-some (behind piece t) h
 stand-in_order (piece ∷ next ∷ pieces) t h =
     elim (behind piece t) as (λ o. behind piece t ≡ o → holds_after (in_order (next ∷ pieces)) o ≡ true
-        → (between : List ℕ) × (rest : List ℕ) × (behind piece t ≡ Some (between ++ rest)) × StandInOrder (next ∷ pieces) rest) [
-        None ↦ λ e g. absurd (cc)
+    → (between : List ℕ) × (rest : List ℕ) × (behind piece t ≡ Some (between ++ rest)) × StandInOrder (next ∷ pieces) rest) [
+      | None ↦ λ e g. absurd (cc)
       | Some r ↦ λ e g.
           let at = any_rest (in_order (next ∷ pieces)) r g in
           (at.0, at.1, e ∙ ap (λ x. Some x) at.2, stand-in_order (next ∷ pieces) at.1 at.3)
@@ -245,9 +245,10 @@ pub cut_at : (pattern : List ℕ) (at : ℕ) → position (λ p. p == 37) patter
 cut_at pattern at h =
     let gap : ℕ → Bool = λ p. p == 37 in
     let two = cond_some (ltb (position_or_len gap pattern) (length pattern)) (position_or_len gap pattern) at h in
-    let within = ltb-true (position_or_len gap pattern) (length pattern) two.0 in
-    (subst (λ k. k < length pattern) two.1 within
-    , slice_split_first gap pattern 0 within ∙ ap (λ k. take k pattern ∷ pieces_of (drop (k + 1) pattern)) two.1)
+    let within = ltb-true (position_or_len gap pattern) (length pattern) two.0 in (
+      subst (λ k. k < length pattern) two.1 within,
+      slice_split_first gap pattern 0 within ∙ ap (λ k. take k pattern ∷ pieces_of (drop (k + 1) pattern)) two.1,
+    )
 
 pub uncut : (pattern : List ℕ) → position (λ p. p == 37) pattern ≡ None → pieces_of pattern ≡ pattern ∷ []
 uncut pattern h =
@@ -262,9 +263,10 @@ take_rest k xs = grind (arith, common_steps)
 -- ---- what the test has come to
 
 pub decided : (r : Bool) (pattern text : List ℕ) → r ≡ like pattern text → IsTrue r ↔ IsLike pattern text
-decided r pattern text h =
-    ( (λ yes. stand-in_order (pieces_of pattern) text (sym (h ∙ like-in_order pattern text) ∙ yes))
-    , (λ stands. h ∙ like-in_order pattern text ∙ in_order-stand (pieces_of pattern) text stands) )
+decided r pattern text h = (
+  (λ yes. stand-in_order (pieces_of pattern) text (sym (h ∙ like-in_order pattern text) ∙ yes)),
+  (λ stands. h ∙ like-in_order pattern text ∙ in_order-stand (pieces_of pattern) text stands),
+)
 
 -- one piece
 pub like_whole : (pattern text : List ℕ) → pieces_of pattern ≡ pattern ∷ [] → like pattern text ≡ is_end (behind pattern text)

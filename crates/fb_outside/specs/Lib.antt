@@ -6,3 +6,5 @@ pub mod Names
 pub mod NameTests
 pub mod Memory
 pub mod MemFiles
+pub mod Puts
+pub mod Answers

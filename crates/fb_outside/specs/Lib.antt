@@ -6,3 +6,4 @@ pub mod Names
 pub mod NameTests
 pub mod Memory
 pub mod MemFiles
+pub mod Open

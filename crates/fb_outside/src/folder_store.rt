@@ -1,8 +1,8 @@
 ghost use Rattle.std.specs.Prelude.{◌≡◌, ◌≢◌, ◌≤◌, [], None, IfOk, IfSome, OnOk, IsErr, IsErrOf, length, option_map};
-ghost use Rattle.std.specs.List.{AllByRecursion};
 ghost use Rattle.fb_outside.specs.Causes.{HasCause};
 ghost use Rattle.fb_outside.specs.Files.{file_at, SameFiles, Puts, PutLeaves};
 ghost use Rattle.fb_outside.specs.Names.{IsFileName};
+ghost use Rattle.fb_outside.specs.Open.{without};
 
 use crate::faults::Faults;
 use crate::open_files::{OpenFile, OpenFiles};
@@ -118,7 +118,7 @@ where
         ensures reads { SameFiles None None }
 
         // What is read after it is of the file that has the name by then.
-        ensures closed { AllByRecursion (λ kept. kept ≢ name.now) self.new.0 }
+        ensures closed { self.new.0 ≡ without name.now self.old.0 }
     {
         self.open.close(name);
         match file_len(&self.files, name) {
@@ -149,7 +149,7 @@ where
         ensures reads { SameFiles None None }
 
         // What is read after it is of the new file.
-        ensures closed { AllByRecursion (λ kept. kept ≢ name.now) self.new.0 }
+        ensures closed { self.new.0 ≡ without name.now self.old.0 }
     {
         self.open.close(name);
         let Ok(fresh) = name_beside(self.alloc, name) else {

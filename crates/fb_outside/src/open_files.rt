@@ -1,5 +1,6 @@
-ghost use Rattle.std.specs.Prelude.{◌≡◌, ◌≢◌, ◌≤◌, [], IsNone, IfSome, IsSome, string_bytes, length};
-ghost use Rattle.std.specs.List.{AllByRecursion};
+ghost use Rattle.std.specs.Prelude.{◌≡◌, ◌≢◌, [], All, IsNone, IfSome, string_bytes, bytes_eq};
+ghost use Rattle.std.specs.List.{position};
+ghost use Rattle.fb_outside.specs.Open.{without, KeepsLast};
 
 use std::alloc::Global;
 use std::marker::Model;
@@ -41,12 +42,10 @@ impl<T> OpenFiles<T> {
     /// Takes out the file of this name, where there is one.
     pub(crate) fn take(&mut self, name: &str) -> Option<OpenFile<T>>
         ensures named { IfSome result (λ kept. string_bytes kept.name ≡ name.now) }
-        ensures missed { IsNone result → AllByRecursion (λ n. n ≢ name.now) self.new }
+        ensures missed { IsNone result → All (λ n. n ≢ name.now) self.old }
+        ensures same { IsNone result → self.new ≡ self.old }
     {
-        let place = self
-            .files
-            .iter()
-            .position(|kept| kept.name.as_str() == name)?;
+        let place = place_of(self.files.as_slice(), name)?;
         Some(self.files.remove(place))
     }
 }
@@ -55,7 +54,7 @@ impl<T: Drop> OpenFiles<T> {
     /// Keeps the file. Where there are eight, the one that was used longest ago is closed for it.
     /// Where memory is wanting, it is closed itself.
     pub(crate) fn keep(&mut self, kept: OpenFile<T>)
-        ensures few { length self.new ≤ 8 }
+        ensures { KeepsLast self.old self.new (string_bytes kept.name) }
     {
         if self.files.len() == MOST_OPEN {
             self.files.remove(0);
@@ -65,8 +64,15 @@ impl<T: Drop> OpenFiles<T> {
 
     /// Closes the file of this name, where there is one.
     pub(crate) fn close(&mut self, name: &str)
-        ensures gone { AllByRecursion (λ n. n ≢ name.now) self.new }
+        ensures { self.new ≡ without name.now self.old }
     {
         self.files.retain(|kept| kept.name.as_str() != name);
     }
+}
+
+/// The place of the first file of this name.
+fn place_of<T>(files: &[OpenFile<T>], name: &str) -> Option<usize>
+    ensures { result ≡ position (λ kept. bytes_eq (string_bytes kept.name) name.now) files.now }
+{
+    files.iter().position(|kept| kept.name.as_str() == name)
 }

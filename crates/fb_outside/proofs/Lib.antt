@@ -1,4 +1,5 @@
 pub mod NameLemmas
+pub mod OpenLemmas
 pub mod MemoryLemmas
 pub mod StreamLemmas
 pub mod FileLemmas

@@ -8,3 +8,4 @@ pub mod Memory
 pub mod MemFiles
 pub mod Puts
 pub mod Answers
+pub mod Open

@@ -334,3 +334,85 @@ fn adapts_folders(rt: HostRuntime) -> Result<(), Fail> {
     fs::remove_dir_all(&rt, FOLDER)?;
     Ok(())
 }
+
+#[test]
+fn reads_the_new_bytes_of_open_files(rt: HostRuntime) -> Result<(), Fail> {
+    let _ = fs::remove_dir_all(&rt, "fb_outside_open");
+    let (a, b) = (
+        named(&rt, "fb_outside_open/a"),
+        named(&rt, "fb_outside_open/b"),
+    );
+    let mut store = FolderStore::make(rt.clone()?, rt.alloc());
+    check_reads(&rt, &mut store, &a, &[(0, b"")]);
+    assert_eq!(rt; store.put(a.as_str(), b"123456"), Ok(()));
+    assert_eq!(rt; store.put(b.as_str(), b"old"), Ok(()));
+    let cases = [(4, b"56".as_slice()), (1, b"2345"), (6, b""), (0, b"1234")];
+    check_reads(&rt, &mut store, &a, &cases);
+    check_reads(&rt, &mut store, &b, &[(0, b"old")]);
+    let far = [
+        (1 << 62, b"".as_slice()),
+        ((1 << 63) - 2, b""),
+        (1 << 63, b""),
+    ];
+    check_reads(&rt, &mut store, &a, &far);
+    // A put is seen at once, and leaves the other file.
+    assert_eq!(rt; store.put(b.as_str(), b"new b"), Ok(()));
+    check_reads(&rt, &mut store, &a, &cases);
+    check_reads(&rt, &mut store, &b, &[(0, b"new "), (4, b"b")]);
+    assert_eq!(rt; store.put(a.as_str(), b"new"), Ok(()));
+    check_reads(&rt, &mut store, &a, &[(0, b"new"), (3, b"")]);
+    assert_eq!(rt; store.len(a.as_str()), Ok(Some(3)));
+    check_reads(&rt, &mut store, &a, &[(1, b"ew")]);
+    // What another takes away stays until the length is asked.
+    fs::remove_file(&rt, a.as_str())?;
+    check_reads(&rt, &mut store, &a, &[(1, b"ew")]);
+    assert_eq!(rt; store.len(a.as_str()), Ok(None));
+    check_reads(&rt, &mut store, &a, &[(1, b"")]);
+    assert_eq!(rt; store.put(a.as_str(), b"third"), Ok(()));
+    check_reads(&rt, &mut store, &a, &[(1, b"hird")]);
+    fs::remove_dir_all(&rt, "fb_outside_open")?;
+    Ok(())
+}
+
+#[test]
+fn reads_more_files_than_stay_open(rt: HostRuntime) -> Result<(), Fail> {
+    let _ = fs::remove_dir_all(&rt, "fb_outside_many");
+    let mut store = FolderStore::make(rt.clone()?, rt.alloc());
+    for i in 0..20u8 {
+        let text = format!(in rt.alloc(); "fb_outside_many/{i}")?;
+        let name = named(&rt, text.as_str());
+        assert_eq!(rt; store.put(name.as_str(), &[b'a', i]), Ok(()));
+        check_reads(&rt, &mut store, &name, &[(1, &[i])]);
+    }
+    // Ten in turn, twice, and one of them between the others.
+    let often = named(&rt, "fb_outside_many/3");
+    for i in 0..20u8 {
+        let text = format!(in rt.alloc(); "fb_outside_many/{}", i % 10)?;
+        let name = named(&rt, text.as_str());
+        check_reads(
+            &rt,
+            &mut store,
+            &name,
+            &[(1, &[i % 10]), (0, &[b'a', i % 10])],
+        );
+        check_reads(&rt, &mut store, &often, &[(1, &[3])]);
+    }
+    fs::remove_dir_all(&rt, "fb_outside_many")?;
+    Ok(())
+}
+
+#[test]
+fn opens_a_file_again_after_a_fault(rt: HostRuntime) -> Result<(), Fail> {
+    let _ = fs::remove_dir_all(&rt, "fb_outside_again");
+    let name = named(&rt, "fb_outside_again/a");
+    let mut store = FolderStore::make(rt.clone()?, rt.alloc());
+    fs::create_dir_all(&rt, name.as_str())?;
+    assert_eq!(rt; store.read_at(name.as_str(), 0, &mut []), Ok(0));
+    assert_eq!(rt; store.read_at(name.as_str(), 0, &mut [0]), Err(Failed));
+    assert_eq!(rt; store.read_at(name.as_str(), 1, &mut [0]), Err(Failed));
+    fs::remove_dir_all(&rt, name.as_str())?;
+    fs::write(&rt, name.as_str(), b"file")?;
+    check_reads(&rt, &mut store, &name, &[(0, b"file"), (2, b"le")]);
+    fs::remove_dir_all(&rt, "fb_outside_again")?;
+    Ok(())
+}

@@ -7,3 +7,4 @@ pub mod BoundLemmas
 pub mod GroupLemmas
 pub mod OrderLemmas
 pub mod GatherLemmas
+pub mod ColumnLemmas

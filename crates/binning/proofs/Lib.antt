@@ -9,3 +9,4 @@ pub mod BoundLemmas
 pub mod GroupLemmas
 pub mod OrderLemmas
 pub mod GatherLemmas
+pub mod ColumnLemmas

@@ -11,6 +11,7 @@ mod digits;
 mod encodings;
 mod gathering;
 mod groups;
+mod laws;
 mod masks;
 mod rules;
 mod span_lists;
@@ -19,6 +20,7 @@ pub use answers::{Three, against};
 pub use encodings::{EncFault, Encoding};
 pub use gathering::{Bin, Gatherer, bins};
 pub use groups::Group;
+pub use laws::{bins_of_a_column, rising_numbers};
 pub use rules::{Keying, Rule, make_rule};
 pub use span_lists::{Span, Spans};
 

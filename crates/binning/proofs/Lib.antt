@@ -1,2 +1,11 @@
+pub mod TestLemmas
+pub mod SpanLemmas
+pub mod DigitLemmas
+pub mod MaskLemmas
+pub mod KeyLemmas
+pub mod BoundLemmas
+pub mod GroupLemmas
+pub mod OrderLemmas
+pub mod GatherLemmas
 pub mod MembersLemmas
 pub mod FetchedLemmas

@@ -1,8 +1,7 @@
 -- The key of a value, which decides its bin, and the keys that a binning says over the values of a column.
-use Rattle.std.specs.Prelude.{◌≡◌, ℕ, ◌+◌, ◌-◌, ◌*◌, ◌/◌, ◌%◌, ◌^◌, ◌≤◌, if◌then◌else◌, int_lt, List, [], ◌∷◌, length, map, filter, count_by, ℤ, pos, negsuc, neg_ℤ, ◌+ℤ◌, ◌<ℤ◌}
-use Rattle.std.specs.List.{AllByRecursion, range_with_len, flat_map, slice_index_or}
+use Rattle.std.specs.Prelude.{◌≡◌, ℕ, ◌+◌, ◌-◌, ◌*◌, ◌/◌, ◌%◌, ◌^◌, ◌≤◌, if◌then◌else◌, int_lt, List, [], ◌∷◌, length, map, slice_index_or, count_by, ℤ, pos, negsuc, neg_ℤ, ◌+ℤ◌, ◌<ℤ◌}
+use Rattle.std.specs.List.{range_with_len}
 use Rattle.std.specs.Int.{int_gap}
-use Rattle.std.specs.Ordering.{int_eq}
 use Rattle.std.specs.Fmt.{decimal}
 use Rattle.index_spec.specs.declared.spec.Binning.{Binning}
 use Rattle.index_spec.specs.declared.spec.Binning.TheVariants as binning
@@ -39,9 +38,15 @@ abbrev pub rising : List ℤ → List ℤ
 rising [] = []
 rising (k ∷ ks) = put k (rising ks)
 
--- the numbers of a list in rising order, each as often as the list has it
+-- a number put into a list in order, before those that are not below it
+abbrev pub placed : ℤ → List ℤ → List ℤ
+placed v [] = v ∷ []
+placed v (x ∷ xs) = if int_lt x v then x ∷ placed v xs else v ∷ x ∷ xs
+
+-- the numbers of a list in order, each as often as the list has it
 abbrev pub sorted : List ℤ → List ℤ
-sorted vs = flat_map (λ v. filter (int_eq v) vs) (rising vs)
+sorted [] = []
+sorted (v ∷ vs) = placed v (sorted vs)
 
 -- each number is below the next
 abbrev pub Rises : List ℤ → Type 0

@@ -1,6 +1,6 @@
 -- Closed spans of whole numbers, and lists of spans in the one form that a set of numbers has.
-use Rattle.std.specs.Prelude.{◌≡◌, Bool, not, ◌&&◌, ⊤, List, [], ◌∷◌, ℤ, pos, negsuc, ◌+ℤ◌, ◌≤ℤ◌, ◌<ℤ◌, int_lt, ◌-◌, ◌^◌}
-use Rattle.std.specs.List.{list_any}
+use Rattle.std.specs.Prelude.{◌≡◌, ℕ, ◌<◌, ◌≤◌, length, slice_index_or, Bool, not, ◌&&◌, ⊤, List, [], ◌∷◌, ℤ, pos, negsuc, ◌+ℤ◌, ◌≤ℤ◌, ◌<ℤ◌, int_lt, ◌-◌, ◌^◌}
+use Rattle.std.specs.List.{list_any, AllByRecursion}
 use Rattle.binning.specs.declared.span_lists.Span.{Span}
 
 -- whether a number is at most another
@@ -24,3 +24,27 @@ abbrev pub AreApart : List Span → Type 0
 AreApart [] = ⊤
 AreApart (s ∷ []) = s.least ≤ℤ s.greatest
 AreApart (s ∷ t ∷ spans) = (s.least ≤ℤ s.greatest) × ((s.greatest +ℤ pos 1) <ℤ t.least) × AreApart (t ∷ spans)
+
+-- both ends are in the range
+abbrev pub IsSpanInRange : Span → Type 0
+IsSpanInRange s = IsInRange s.least × IsInRange s.greatest
+
+-- ---- how spans are put into this form
+
+abbrev pub has_number : Span → Bool
+has_number s = int_le s.least s.greatest
+
+abbrev pub HasNumber : Span → Type 0
+HasNumber s = s.least ≤ℤ s.greatest
+
+-- no span begins below the one before it
+abbrev pub LeastsRise : List Span → Type 0
+LeastsRise [] = ⊤
+LeastsRise (s ∷ []) = ⊤
+LeastsRise (s ∷ t ∷ spans) = (s.least ≤ℤ t.least) × LeastsRise (t ∷ spans)
+
+-- The place of the first span that reaches up to the number, or how many there are.
+pub record IsFirstReaching (spans : List Span) (v : ℤ) (place : ℕ) : Type 0 where
+  pub within : place ≤ length spans
+  pub before : (k : ℕ) (d : Span) → k < place → (slice_index_or spans k d).greatest <ℤ v
+  pub there : (d : Span) → place < length spans → v ≤ℤ (slice_index_or spans place d).greatest

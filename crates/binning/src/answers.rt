@@ -2,7 +2,7 @@
 ghost use Rattle.std.specs.Prelude.{◌≡◌, ◌≤ℤ◌};
 ghost use Rattle.binning.specs.Against.{against};
 
-use crate::span_lists::Spans;
+use crate::span_lists::{Spans, first_reaching};
 
 /// An answer over a range of values of which one is not known.
 #[derive(Clone, Copy, Debug, PartialEq, Eq)]
@@ -21,9 +21,14 @@ pub fn against(least: i128, greatest: i128, spans: &Spans) -> Three
     ensures { result ≡ against least greatest spans.now }
 {
     let list = spans.list();
-    if list.iter().any(|s| s.least <= least && greatest <= s.greatest) {
+    let place = first_reaching(list, least);
+    if place >= list.len() {
+        return Three::No;
+    }
+    let span = list[place];
+    if span.least <= least && greatest <= span.greatest {
         Three::Yes
-    } else if list.iter().any(|s| s.least <= greatest && least <= s.greatest) {
+    } else if span.least <= greatest {
         Three::Unknown
     } else {
         Three::No

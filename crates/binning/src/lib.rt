@@ -6,13 +6,22 @@
 #![tactic(auto)]
 
 mod answers;
+mod bin_rows;
+mod bounds;
+mod digits;
 mod encodings;
 mod gathering;
+mod groups;
+mod masks;
 mod rules;
 mod span_lists;
 
 pub use answers::{Three, against};
 pub use encodings::{EncFault, Encoding};
 pub use gathering::{Bin, Gatherer, bins};
+pub use groups::Group;
 pub use rules::{Keying, Rule, make_rule};
 pub use span_lists::{Span, Spans};
+
+#[cfg(test)]
+mod tests;

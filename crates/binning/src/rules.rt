@@ -1,12 +1,14 @@
 //! Rules, which give each value the key that decides its bin.
-ghost use Rattle.std.specs.Prelude.{◌≡◌, ◌+◌, ◌≤◌, length, IfOk};
+ghost use Rattle.std.specs.Prelude.{◌≡◌, ◌+◌, ◌≤◌, count_by, length, IfOk};
 ghost use Rattle.std.specs.List.{AllByRecursion};
 ghost use Rattle.wah_words.specs.Spelling.{words_of};
 ghost use Rattle.index_spec.specs.Language.{IsGivenBinning};
-ghost use Rattle.binning.specs.Spans.{IsInRange};
-ghost use Rattle.binning.specs.Keys.{key, keying_of, IsKeying};
+ghost use Rattle.binning.specs.Spans.{IsInRange, int_le};
+ghost use Rattle.binning.specs.Keys.{key, keying_of, IsKeying, Rises};
 ghost use Rattle.binning.specs.Bins.{cells, present};
 
+use crate::bounds::{weights, width_bounds};
+use crate::digits::leading;
 use index_spec::Binning;
 use sqlite_items::Items;
 use std::alloc::{AllocError, Global};
@@ -44,6 +46,37 @@ impl Model for Rule {
     ghost invariant = { λ r. IsKeying r.keys };
 }
 
+/// The keys that a binning says over a column.
+fn keys_said<L: Ledger>(
+    alloc: Global,
+    binning: &Binning,
+    values: &[i128],
+    mask: &Wah,
+    steps: &mut Steps<L>,
+) -> Result<Keying, AllocError>
+    requires given { IsGivenBinning binning.now }
+    requires same { length values.now ≡ length mask.now }
+    ensures keys { IfOk result (λ keys. keys ≡ keying_of binning.now (present (cells mask.now values.now))) }
+    ensures steps { steps.new ≤ steps.old + words_of mask.now }
+{
+    match binning {
+        Binning::Each => Ok(Keying::Each),
+        Binning::Bounds(bounds) => {
+            let bounds = Items::from_slice(alloc, bounds.as_slice())?;
+            Ok(Keying::Bounds(bounds))
+        }
+        Binning::Width { start, end, count } => {
+            let bounds = width_bounds(alloc, *start, *end, *count)?;
+            Ok(Keying::Bounds(Items::from_vec(bounds)))
+        }
+        Binning::Weight { count } => {
+            let bounds = weights(alloc, values, mask, *count, steps)?;
+            Ok(Keying::Bounds(Items::from_vec(bounds)))
+        }
+        Binning::Precision { digits } => Ok(Keying::Digits(*digits)),
+    }
+}
+
 /// The rule of a binning over a column, whose values lie between -2^63 and 2^64 - 1. Only binning by weight looks at
 /// the values, and of these only at those where the mask is true.
 pub fn make_rule<L: Ledger>(
@@ -60,12 +93,16 @@ pub fn make_rule<L: Ledger>(
     ensures kept { IfOk result (λ rule. IsKeying rule) }
     ensures steps { steps.new ≤ steps.old + words_of mask.now }
 {
-    let _ = alloc;
-    let _ = binning;
-    let _ = values;
-    let _ = mask;
-    let _ = steps;
-    Err(AllocError)
+    let keys = keys_said(alloc, binning, values, mask, steps)?;
+    Ok(Rule { keys })
+}
+
+/// How many of the bounds, which rise, are at most the value.
+fn count_at_most(bounds: &[i128], v: i128) -> usize
+    requires { Rises bounds.now }
+    ensures { result ≡ count_by (λ b. int_le b v) bounds.now }
+{
+    bounds.partition_point(|bound| *bound <= v)
 }
 
 impl Rule {
@@ -74,14 +111,22 @@ impl Rule {
         requires { IsInRange v }
         ensures { result ≡ key self.now v }
     {
-        v
+        match &self.keys {
+            Keying::Each => v,
+            Keying::Bounds(bounds) => count_at_most(bounds.as_slice(), v) as i128,
+            Keying::Digits(digits) => leading(*digits, v),
+        }
     }
 
     /// The same rule again.
     pub fn copy(&self, alloc: Global) -> Result<Rule, AllocError>
         ensures { IfOk result (λ rule. rule ≡ self.now) }
     {
-        let _ = alloc;
-        Err(AllocError)
+        let keys = match &self.keys {
+            Keying::Each => Keying::Each,
+            Keying::Bounds(bounds) => Keying::Bounds(Items::from_slice(alloc, bounds.as_slice())?),
+            Keying::Digits(digits) => Keying::Digits(*digits),
+        };
+        Ok(Rule { keys })
     }
 }

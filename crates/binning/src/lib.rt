@@ -6,6 +6,7 @@
 #![tactic(auto)]
 
 mod answers;
+mod bin_rows;
 mod bounds;
 mod digits;
 mod encodings;

@@ -58,7 +58,7 @@ fn less_than(condition: Atom) -> Option<Comparison>
 }
 
 /// The comparison that the clause is.
-fn comparison(clause: Clause) -> Option<Comparison>
+fn asked_of(clause: Clause) -> Option<Comparison>
     ensures { asked_as result ≡ asked (Ok clause) }
 {
     match clause {
@@ -79,7 +79,7 @@ pub(crate) fn comparison_of(alloc: Global, text: &str) -> Result<Comparison, Sto
         return Err(bad_query(QueryKind::Syntax));
     };
     match parse_where(alloc, rest) {
-        Ok(clause) => match comparison(clause) {
+        Ok(clause) => match asked_of(clause) {
             Some(comparison) => Ok(comparison),
             None => Err(bad_query(QueryKind::Syntax)),
         },

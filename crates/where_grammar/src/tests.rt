@@ -183,15 +183,37 @@ fn limits_are_kept_and_passed(rt: HostRuntime) -> Result<(), Fail> {
         ("a = '", "''", 65_536, "'", "TextLength"),
         ("a = '", "''", 65_535, "", "Syntax"),
         ("a = \"", "x", 65_536, "\" (", "TextLength"),
-        ("", " ", 1_048_576, "", "Syntax"),
-        ("", " ", 1_048_577, "", "Length"),
-        ("", "(", 1_048_576, "", "Depth"),
-        ("", "not ", 262_144, "", "Depth"),
-        ("", "a=1 or ", 100_000, "a", "Syntax"),
     ] {
         let text = repeated(rt.alloc(), front, piece, times, end)?;
         let found = told(rt.alloc(), text.as_str())?;
         assert!(rt; found.as_str() == want, "{front}{piece} {times} {want}");
+    }
+    Ok(())
+}
+
+/// The piece 2^n times.
+fn doubled(alloc: Global, piece: &str, n: u32) -> Result<String, AllocError> {
+    let mut text = String::from_str(alloc, piece)?;
+    for _ in 0..n {
+        let half = String::from_str(alloc, text.as_str())?;
+        text.push_str(half.as_str())?;
+    }
+    Ok(text)
+}
+
+#[test]
+fn a_megabyte_is_refused(rt: HostRuntime) -> Result<(), Fail> {
+    for (piece, n, end, want) in [
+        (" ", 20, "", "Syntax"),
+        (" ", 20, " ", "Length"),
+        ("(", 20, "", "Depth"),
+        ("not ", 18, "", "Depth"),
+        ("a=1 or ", 17, "", "Syntax"),
+    ] {
+        let mut text = doubled(rt.alloc(), piece, n)?;
+        text.push_str(end)?;
+        let found = told(rt.alloc(), text.as_str())?;
+        assert!(rt; found.as_str() == want, "{piece} {n}");
     }
     Ok(())
 }

@@ -1,10 +1,10 @@
 -- A gatherer is that of the column, with one row more; its bins are the column's.
-use Rattle.std.proofs.Common.{◌≡◌, ℕ, zero, suc, ◌+◌, ◌<◌, ◌≤◌, Bool, true, false, ◌||◌, cond, eqb, List, [], ◌∷◌, ◌++◌, length, get_or, map, Option, Some, None, ℤ, pos, refl, sym, ap, subst, ◌∙◌, append_assoc, append-nil, arith}
-use Rattle.std.specs.List.{list_any, AllByRecursion, filter_map, fold, filter}
+use Rattle.std.proofs.Common.{◌≡◌, ℕ, zero, suc, ◌+◌, ◌<◌, ◌≤◌, Bool, true, false, ◌||◌, cond, eqb, List, [], ◌∷◌, ◌++◌, length, get_or, map, Option, Some, None, ℤ, pos, refl, sym, ap, subst, ◌∙◌, append-nil, arith}
+use Rattle.std.specs.List.{AllByRecursion, fold, filter}
 use Rattle.std.specs.Int.{int_min, int_max}
 use Rattle.std.specs.Ordering.{int_eq}
 use Rattle.std.proofs.lemmas.Bool.Decides.{nat_tests}
-use Rattle.binning.specs.Keys.{key, rising}
+use Rattle.binning.specs.Keys.{key}
 use Rattle.binning.specs.Bins.{present, values_with, least_of, greatest_of, has_key, rows_with, bin_of, bins_of}
 use Rattle.binning.specs.BinFor.{bin_for, no_group}
 use Rattle.binning.specs.Gathered.{Held, Gathered, keys_in, is_in, AreDistinct, place_in, place_of, group_of, grown_group, with_value, groups_after, held}
@@ -12,10 +12,9 @@ use Rattle.binning.specs.Groups.{ByKey}
 use Rattle.binning.specs.declared.groups.Group.{Group}
 use Rattle.binning.specs.declared.groups.KeyPlace.{KeyPlace}
 use Rattle.binning.specs.declared.rules.Keying.{Keying}
-use Rattle.binning.specs.declared.gathering.Bin.{Bin}
-use Rattle.binning.proofs.TestLemmas.{either, not_both, or-false}
-use Rattle.binning.proofs.KeyLemmas.{eq_from, eq_true, eq_self, eq_false, eq_swap, is_in-append, is_in_again, or_left, or_right, rising_from}
-use Rattle.binning.proofs.GroupLemmas.{place_at, place_longer, place_of_new, place_absent, place_within, keys_with, keys_new, with_new, distinct_push, keys_in-get, length-keys_in}
+use Rattle.binning.proofs.TestLemmas.{either, not_both}
+use Rattle.binning.proofs.KeyLemmas.{eq_from, eq_true, eq_self, eq_swap, is_in-append, is_in_again, or_left, or_right, rising_from}
+use Rattle.binning.proofs.GroupLemmas.{place_at, place_longer, place_of_new, place_absent, keys_with, keys_new, with_new, distinct_push, keys_in-get, length-keys_in}
 
 -- ---- a column with one row more
 

@@ -1,15 +1,10 @@
 -- Groups of values by key, and the places of rows.
-use Rattle.std.proofs.Common.{◌≡◌, ℕ, zero, suc, ◌+◌, ◌-◌, ◌<◌, ◌≤◌, Bool, true, false, ◌||◌, cond, if◌then◌else◌, List, [], ◌∷◌, ◌++◌, length, get_or, set, map, Option, Some, None, ℤ, refl, sym, ap, subst, ◌∙◌, add-one, length-append, arith}
-use Rattle.std.specs.List.{list_any, AllByRecursion, filter_map, fold, filter}
-use Rattle.std.specs.Int.{int_min, int_max}
+use Rattle.std.proofs.Common.{◌≡◌, ℕ, zero, suc, ◌<◌, Bool, true, false, ◌||◌, cond, List, [], ◌∷◌, ◌++◌, length, get_or, set, Some, None, ℤ, refl, sym, ap, subst, ◌∙◌, arith}
 use Rattle.std.specs.Ordering.{int_eq}
 use Rattle.std.proofs.lemmas.List.{length-map}
-use Rattle.binning.specs.Keys.{key}
-use Rattle.binning.specs.Bins.{present, values_with, least_of, greatest_of}
-use Rattle.binning.specs.Gathered.{Held, Gathered, keys_in, is_in, AreDistinct, place_in, place_of, group_of, grown_group, with_value, groups_after}
+use Rattle.binning.specs.Gathered.{keys_in, is_in, AreDistinct, place_in, grown_group, with_value}
 use Rattle.binning.specs.Groups.{place_if, grown}
 use Rattle.binning.specs.declared.groups.Group.{Group}
-use Rattle.binning.specs.declared.rules.Keying.{Keying}
 use Rattle.binning.proofs.TestLemmas.{either, not_both, or-false}
 use Rattle.binning.proofs.KeyLemmas.{eq_from, eq_true, eq_self, eq_false, eq_swap, is_in-append, or_left, or_right}
 

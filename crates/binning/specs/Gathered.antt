@@ -1,5 +1,5 @@
 -- What a gatherer keeps of a column, and when it is that of a column.
-use Rattle.std.specs.Prelude.{◌≡◌, ℕ, suc, ◌<◌, ◌≤◌, Bool, false, not, ◌&&◌, ◌⊎◌, if◌then◌else◌, ⊤, List, [], ◌∷◌, length, map, Option, Some, None, All, ℤ, nat_eq}
+use Rattle.std.specs.Prelude.{◌≡◌, ℕ, suc, Bool, false, if◌then◌else◌, ⊤, List, [], ◌∷◌, map, Option, Some, None, ℤ}
 use Rattle.std.specs.List.{list_any, AllByRecursion}
 use Rattle.std.specs.Int.{int_min, int_max}
 use Rattle.std.specs.Ordering.{int_eq}

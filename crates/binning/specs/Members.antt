@@ -1,6 +1,6 @@
 -- Which rows a bitmap has: bins are lists of truth values, a set of bins is a test of their numbers.
-use Rattle.std.specs.Prelude.{◌≡◌, ℕ, ◌<◌, suc, Bool, true, false, if◌then◌else◌, ◌&&◌, nat_le, nat_lt, List, [], ◌∷◌, length, map, All, slice_index_or, unwrap_or}
-use Rattle.wah_logic.specs.Logic.{each_place, and, union}
+use Rattle.std.specs.Prelude.{◌≡◌, ℕ, suc, Bool, true, false, if◌then◌else◌, ◌&&◌, nat_le, nat_lt, List, [], ◌∷◌, length, map, All, slice_index_or, unwrap_or}
+use Rattle.wah_logic.specs.Logic.{union}
 use Rattle.index_spec.specs.Counts.{bitmap_count}
 use Rattle.index_spec.specs.Members.{member, needed, from_to}
 use Rattle.index_spec.specs.declared.spec.EncodingSpec.{EncodingSpec}

@@ -1,6 +1,6 @@
 -- Closed spans of whole numbers, and lists of spans in the one form that a set of numbers has.
-use Rattle.std.specs.Prelude.{◌≡◌, ℕ, ◌<◌, ◌≤◌, length, slice_index_or, Bool, not, ◌&&◌, ⊤, List, [], ◌∷◌, ℤ, pos, negsuc, ◌+ℤ◌, ◌≤ℤ◌, ◌<ℤ◌, int_lt, ◌-◌, ◌^◌}
-use Rattle.std.specs.List.{list_any, AllByRecursion}
+use Rattle.std.specs.Prelude.{ℕ, ◌<◌, ◌≤◌, length, slice_index_or, Bool, not, ◌&&◌, ⊤, List, [], ◌∷◌, ℤ, pos, negsuc, ◌+ℤ◌, ◌≤ℤ◌, ◌<ℤ◌, int_lt, ◌-◌, ◌^◌}
+use Rattle.std.specs.List.{list_any}
 use Rattle.binning.specs.declared.span_lists.Span.{Span}
 
 -- whether a number is at most another

@@ -1,4 +1,4 @@
-use Rattle.std.proofs.Common.{◌≡◌, ◌∙◌, sym, ap, rules, arith, pos, List, length, ◌<◌, ◌≤◌, get_or, ◌≤ℤ◌, ◌<ℤ◌, true, false}
+use Rattle.std.proofs.Common.{◌≡◌, ◌∙◌, ap, arith, pos, List, get_or, ◌≤ℤ◌, ◌<ℤ◌, false}
 use Rattle.std.specs.Int.{w128}
 use Rattle.std.proofs.lemmas.Int.{ints, to_z-of_z}
 use mir.Val.{SFits}

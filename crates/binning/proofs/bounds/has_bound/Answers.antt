@@ -1,4 +1,4 @@
-use Rattle.std.proofs.Common.{◌≡◌, ◌<◌, ◌-◌, ◌∙◌, sym, length, get_or, pos, arith, rules}
+use Rattle.std.proofs.Common.{◌-◌, ◌∙◌, sym, length, get_or, pos, arith, rules}
 use Rattle.std.specs.Int.{w128}
 use mir.Val.{SFits}
 use Rattle.binning.proofs.KeyLemmas.{last_tells, of_z_eq}

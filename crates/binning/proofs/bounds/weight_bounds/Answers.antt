@@ -1,12 +1,12 @@
-use Rattle.std.proofs.Common.{◌≡◌, ◌||◌, ◌<◌, ◌≤◌, ◌-◌, ◌+◌, ◌*◌, ◌/◌, ◌∙◌, sym, ap, get_or, length, pos, ◌≤ℤ◌, refl, arith, rules, List, ℤ}
+use Rattle.std.proofs.Common.{◌≡◌, ◌||◌, ◌<◌, ◌-◌, ◌*◌, ◌/◌, ◌∙◌, sym, ap, get_or, length, pos, ◌≤ℤ◌, refl, arith, rules, ℤ}
 use Rattle.std.specs.Int.{w128}
 use Rattle.std.specs.List.{AllByRecursion}
 use Rattle.std.specs.Ordering.{int_eq}
 use Rattle.std.proofs.lemmas.Int.{to_z-of_z}
-use mir.Val.{SFits, to_z, of_z}
+use mir.Val.{SFits}
 use Rattle.binning.specs.Keys.{rising}
 use Rattle.binning.specs.Gathered.{is_in}
-use Rattle.binning.proofs.BoundLemmas.{weight_bound, cut_start, cut_more, cut_end, weight_up, weight_bounds_some, weight_bounds_none, place_below}
+use Rattle.binning.proofs.BoundLemmas.{weight_bound, cut_start, cut_more, cut_end, weight_up, weight_bounds_some, weight_bounds_none}
 use Rattle.binning.proofs.bounds.weight_bounds.Goals as goal
 
 pub returns-then-sorted-eq0 : goal.returns-then-sorted-eq0

@@ -1,4 +1,4 @@
-use Rattle.std.proofs.Common.{◌≡◌, ◌≤◌, ◌∙◌, sym, ap, List, ℤ, arith, rules, refl}
+use Rattle.std.proofs.Common.{◌≡◌, ◌∙◌, ap, arith}
 use Rattle.binning.specs.Keys.{sorted}
 use Rattle.binning.specs.Bins.{present, cells}
 use Rattle.binning.proofs.KeyLemmas.{sort_is}

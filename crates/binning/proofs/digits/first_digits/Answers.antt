@@ -1,6 +1,5 @@
-use Rattle.std.proofs.Common.{◌≡◌, ◌<◌, ◌≤◌, ◌+◌, ◌-◌, ◌*◌, ◌^◌, ◌/◌, arith, rules}
-use Rattle.std.proofs.Math.Nat.{mul-le-mul_left}
-use Rattle.binning.proofs.DigitLemmas.{unit_pos, unit_one, unit_more, below_unit, above_unit, ten_pow, first_digits_by, ten_unit}
+use Rattle.std.proofs.Common.{◌<◌, ◌≤◌, ◌+◌, ◌-◌, ◌*◌, ◌^◌, ◌/◌, arith}
+use Rattle.binning.proofs.DigitLemmas.{unit_pos, unit_one, unit_more, below_unit, above_unit, first_digits_by, ten_unit}
 use Rattle.binning.proofs.digits.first_digits.Goals as goal
 
 pub loop-unit-init : goal.loop-unit-init

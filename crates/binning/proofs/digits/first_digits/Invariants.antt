@@ -1,4 +1,4 @@
-use Rattle.std.proofs.Common.{◌≡◌, ◌≤◌, ◌+◌, ◌-◌}
+use Rattle.std.proofs.Common.{◌+◌, ◌-◌}
 use Rattle.binning.proofs.DigitLemmas.{IsUnit}
 use Rattle.binning.proofs.digits.first_digits.Given as goal
 

@@ -1,10 +1,9 @@
-use Rattle.std.proofs.Common.{◌≡◌, ◌<◌, ◌+◌, ◌∙◌, sym, ap, List, ℕ, Bool, length, get_or, map, eqb, [], pos, arith, rules, refl}
+use Rattle.std.proofs.Common.{◌≡◌, ◌<◌, ◌∙◌, ap, List, ℕ, length, get_or, map, eqb, pos, arith, rules, refl}
 use Rattle.std.specs.Int.{w128}
 use Rattle.std.proofs.lemmas.Int.{to_z-of_z}
 use Rattle.std.proofs.lemmas.List.FromFn.{get_or-map-range_with_len, length-map-range_with_len}
 use Rattle.std.specs.List.{range_with_len}
 use mir.Val.{SFits}
-use Rattle.wah_iter.specs.Rows.{rows_of}
 use Rattle.binning.specs.Groups.{rows_at}
 use Rattle.binning.specs.declared.groups.Group.{Group}
 use Rattle.binning.proofs.OrderLemmas.{rows_rise, rows_at_below, rows_tell}

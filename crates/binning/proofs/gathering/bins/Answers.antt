@@ -1,4 +1,4 @@
-use Rattle.std.proofs.Common.{◌≡◌, ◌∙◌, sym, ap, [], arith, rules, refl}
+use Rattle.std.proofs.Common.{◌≡◌, ◌∙◌, ap, []}
 use Rattle.binning.specs.Bins.{bins_of, cells}
 use Rattle.binning.specs.declared.rules.Keying.{Keying}
 use Rattle.binning.proofs.gathering.bins.Goals as goal

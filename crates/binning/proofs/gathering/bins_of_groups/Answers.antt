@@ -1,4 +1,4 @@
-use Rattle.std.proofs.Common.{◌≡◌, ◌∙◌, sym, ap, List, map, arith, rules, refl}
+use Rattle.std.proofs.Common.{◌∙◌, ap, List, map}
 use Rattle.binning.specs.Gathered.{held}
 use Rattle.binning.specs.BinFor.{bin_for}
 use Rattle.binning.specs.declared.groups.KeyPlace.{KeyPlace}

@@ -1,11 +1,11 @@
-use Rattle.std.proofs.Common.{◌≡◌, ◌<◌, ◌≤◌, ◌+◌, ◌++◌, ◌∷◌, [], ◌∙◌, sym, ap, List, Option, Some, None, ℤ, length, take, get_or, cond, false, pos, append_assoc, append-nil, length-append, arith, rules, refl}
+use Rattle.std.proofs.Common.{◌≡◌, ◌<◌, ◌≤◌, ◌+◌, ◌++◌, ◌∷◌, [], ◌∙◌, sym, ap, List, Option, ℤ, length, take, get_or, false, pos, append_assoc, append-nil, length-append, arith, rules}
 use Rattle.std.specs.Int.{w128}
 use Rattle.std.proofs.lemmas.Int.{to_z-of_z}
 use Rattle.std.proofs.lemmas.List.{take_all}
 use mir.Val.{SFits}
 use Rattle.binning.specs.Bins.{cells}
 use Rattle.binning.specs.Spans.{IsInRange}
-use Rattle.binning.specs.Gathered.{Gathered, held, place_of, keys_in}
+use Rattle.binning.specs.Gathered.{place_of, keys_in}
 use Rattle.binning.proofs.MaskLemmas.{cells_more, cell, cell_is, cell_within, value_at}
 use Rattle.binning.proofs.GatherLemmas.{gathered_more, distinct_after, length_after}
 use Rattle.binning.proofs.gathering.put_rows.Goals as goal

@@ -1,9 +1,9 @@
-use Rattle.std.proofs.Common.{◌≡◌, ◌∷◌, ◌++◌, [], ◌∙◌, sym, ap, List, ℤ, length, cond, Some, arith, rules, refl}
+use Rattle.std.proofs.Common.{◌≡◌, ◌∷◌, ◌++◌, [], ◌∙◌, sym, ap, List, ℤ, length, cond, Some, arith, refl}
 use Rattle.std.specs.Int.{w128}
 use Rattle.std.specs.HashMap.{get}
 use Rattle.std.specs.Ordering.{int_eq}
 use Rattle.std.proofs.lemmas.Int.{to_z-of_z}
-use mir.Val.{SFits, to_z, of_z}
+use mir.Val.{SFits}
 use Rattle.binning.specs.Gathered.{keys_in}
 use Rattle.binning.specs.Groups.{place_if}
 use Rattle.binning.proofs.GroupLemmas.{with_new, keys_push, place_if_push, length-keys_in}

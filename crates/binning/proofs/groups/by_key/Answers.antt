@@ -1,4 +1,4 @@
-use Rattle.std.proofs.Common.{◌≡◌, IsPermutation, arith, rules}
+use Rattle.std.proofs.Common.{◌≡◌, IsPermutation, rules}
 use Rattle.std.proofs.lemmas.Fn.{always_returns_same}
 use Rattle.binning.specs.Groups.{pairs_from}
 use Rattle.binning.specs.declared.groups.KeyPlace.{KeyPlace}

@@ -1,7 +1,7 @@
-use Rattle.std.proofs.Common.{◌≡◌, ◌<◌, length, get_or, pos, arith, rules, refl}
+use Rattle.std.proofs.Common.{◌≡◌, rules}
 use Rattle.std.specs.Int.{w128, int_min, int_max}
 use Rattle.std.proofs.lemmas.Int.{to_z-of_z}
-use mir.Val.{SFits, to_z, of_z}
+use mir.Val.{SFits}
 use Rattle.binning.proofs.GroupLemmas.{grown_set_at}
 use Rattle.binning.proofs.groups.grow.Goals as goal
 

@@ -1,8 +1,8 @@
-use Rattle.std.proofs.Common.{◌≡◌, ◌<◌, ◌∙◌, sym, ap, List, ℤ, ℕ, true, false, length, Some, None, arith, rules, refl}
+use Rattle.std.proofs.Common.{◌≡◌, ◌∙◌, sym, ap, List, ℤ, ℕ, Some, None, arith}
 use Rattle.std.specs.Int.{w128}
 use Rattle.std.proofs.lemmas.Int.{to_z-of_z}
-use mir.Val.{SFits, to_z, of_z}
-use Rattle.binning.specs.Gathered.{keys_in, is_in, place_in}
+use mir.Val.{SFits}
+use Rattle.binning.specs.Gathered.{keys_in}
 use Rattle.binning.specs.Groups.{place_if, grown}
 use Rattle.binning.proofs.GroupLemmas.{place_found, place_missing, place_within, place_absent, length-keys_in, grown_with, keys_with}
 use Rattle.binning.proofs.groups.place.Goals as goal

@@ -1,4 +1,4 @@
-use Rattle.std.proofs.Common.{◌≡◌, ◌<◌, ◌≤◌, length, arith, rules}
+use Rattle.std.proofs.Common.{◌<◌, ◌≤◌, length, arith}
 use Rattle.binning.proofs.OrderLemmas.{with_row_past, with_row_set}
 use Rattle.binning.proofs.groups.put.Goals as goal
 

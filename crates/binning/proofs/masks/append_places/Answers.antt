@@ -1,4 +1,4 @@
-use Rattle.std.proofs.Common.{◌≡◌, ◌<◌, ◌≤◌, ◌-◌, ◌∷◌, ◌++◌, [], ◌∙◌, sym, ap, arith, append_assoc, append-nil, refl, rules, List, Bool}
+use Rattle.std.proofs.Common.{◌≡◌, ◌<◌, ◌++◌, ◌∙◌, sym, ap, arith, append_assoc, append-nil, List, Bool}
 use Rattle.binning.proofs.MaskLemmas.{places_first, places_none}
 use Rattle.binning.proofs.masks.append_places.Goals as goal
 

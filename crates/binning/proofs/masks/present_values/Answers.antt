@@ -1,9 +1,8 @@
-use Rattle.std.proofs.Common.{◌≡◌, ◌<◌, ◌+◌, ◌∙◌, sym, ap, List, Bool, ℤ, length, take, get_or, false, pos, arith, rules}
+use Rattle.std.proofs.Common.{◌≡◌, ◌<◌, ◌∙◌, sym, length, get_or, false, pos, arith, rules}
 use Rattle.std.specs.Int.{w128}
 use Rattle.std.proofs.lemmas.Int.{to_z-of_z}
 use mir.Val.{SFits}
 use Rattle.binning.proofs.MaskLemmas.{present_more}
-use Rattle.binning.specs.Bins.{present, cells}
 use Rattle.binning.proofs.masks.present_values.Goals as goal
 
 pub loop-row-preserved : goal.loop-row-preserved

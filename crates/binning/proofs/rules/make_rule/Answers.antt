@@ -1,4 +1,3 @@
-use Rattle.std.proofs.Common.{◌≡◌, arith, rules}
 use Rattle.binning.specs.Bins.{present, cells}
 use Rattle.binning.proofs.KeyLemmas.{kept_of}
 use Rattle.binning.proofs.rules.make_rule.Goals as goal

@@ -1,7 +1,6 @@
-use Rattle.std.proofs.Common.{◌≡◌, ◌+◌, ◌<◌, ◌≤◌, ◌∷◌, ◌++◌, [], ◌∙◌, sym, ap, List, length, take, drop, get_or, arith, pos, refl, rules}
+use Rattle.std.proofs.Common.{◌+◌, ◌<◌, ◌≤◌, ◌∷◌, ◌∙◌, ap, List, length, take, drop, get_or, arith, pos, refl}
 use Rattle.std.proofs.lemmas.List.{take_all}
 use Rattle.binning.specs.Spans.{has}
-use Rattle.binning.specs.Joined.{Joined}
 use Rattle.binning.specs.declared.span_lists.Span.{Span}
 use Rattle.binning.proofs.SpanLemmas.{seen_more, next_of, joined_start, joined_end}
 use Rattle.binning.proofs.span_lists.merged.Goals as goal

@@ -1,4 +1,4 @@
-use Rattle.std.proofs.Common.{◌≡◌, ◌∷◌, ◌++◌, [], pos, ◌+ℤ◌, ◌<ℤ◌, ◌≤ℤ◌, arith, refl, rules}
+use Rattle.std.proofs.Common.{pos, ◌+ℤ◌, ◌<ℤ◌, ◌≤ℤ◌, arith, rules}
 use Rattle.std.specs.Int.{w128}
 use Rattle.std.proofs.lemmas.Int.{ints, to_z-of_z}
 use Rattle.binning.proofs.SpanLemmas.{gap_step, join_step, skip_step}

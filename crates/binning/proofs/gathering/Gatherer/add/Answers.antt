@@ -1,4 +1,4 @@
-use Rattle.std.proofs.Common.{◌≡◌, ◌∙◌, sym, ap, subst, List, Bool, arith, rules, refl}
+use Rattle.std.proofs.Common.{◌≡◌, sym, subst, rules}
 use Rattle.binning.specs.Gathered.{Gathered, Held, held}
 use Rattle.binning.proofs.gathering.Gatherer.add.Goals as goal
 

@@ -1,4 +1,4 @@
-use Rattle.std.proofs.Common.{◌≡◌, ◌∙◌, sym, ap, subst, arith, rules, refl}
+use Rattle.std.proofs.Common.{◌∙◌, sym, ap, subst}
 use Rattle.binning.specs.Gathered.{Gathered, Held, held}
 use Rattle.binning.specs.Bins.{bins_of}
 use Rattle.binning.proofs.gathering.Gatherer.finish.Goals as goal

@@ -1,4 +1,4 @@
-use Rattle.std.proofs.Common.{◌≡◌, arith, rules, refl}
+use Rattle.std.proofs.Common.{arith, refl}
 use Rattle.binning.proofs.GatherLemmas.{gathered_none}
 use Rattle.binning.proofs.gathering.Gatherer.make.Goals as goal
 

@@ -1,9 +1,9 @@
-use Rattle.std.proofs.Common.{◌≡◌, ◌∙◌, sym, ap, rules, arith, pos, List, length, ◌<◌, ◌≤◌, get_or, ltb, true, false}
+use Rattle.std.proofs.Common.{◌≡◌, ◌∙◌, ap, rules, arith, pos, List, length, ◌≤◌, get_or, ltb, false}
 use Rattle.std.specs.Int.{w128}
 use Rattle.std.proofs.lemmas.Bool.Decides.{nat_tests}
-use Rattle.std.proofs.lemmas.Int.{ints, to_z-of_z}
+use Rattle.std.proofs.lemmas.Int.{to_z-of_z}
 use mir.Val.{SFits}
-use Rattle.binning.specs.Spans.{AreApart, IsFirstReaching, int_le, has}
+use Rattle.binning.specs.Spans.{AreApart, IsFirstReaching, has}
 use Rattle.binning.specs.declared.span_lists.Span.{Span}
 use Rattle.binning.proofs.SpanLemmas.{has_at, has_none, le_test}
 use Rattle.binning.proofs.span_lists.Spans.has.Goals as goal

@@ -1,8 +1,8 @@
-use Rattle.std.proofs.Common.{◌≡◌, ◌∙◌, sym, ap, List, arith, rules, refl, filter, IsPermutation}
+use Rattle.std.proofs.Common.{◌≡◌, ◌∙◌, sym, ap, List, rules}
 use Rattle.std.specs.List.{AllByRecursion}
 use Rattle.std.proofs.lemmas.Fn.{always_returns_same}
 use Rattle.std.proofs.lemmas.List.Sorted.{list_any-IsPermutation}
-use Rattle.binning.specs.Spans.{has, has_number, in_span, HasNumber, IsSpanInRange, LeastsRise}
+use Rattle.binning.specs.Spans.{has, in_span, HasNumber, IsSpanInRange, LeastsRise}
 use Rattle.binning.specs.declared.span_lists.Span.{Span}
 use Rattle.binning.proofs.SpanLemmas.{numbers-nonempty, range-nonempty, has-nonempty, all_permuted, sorted_leasts}
 use Rattle.binning.proofs.span_lists.Spans.of.Goals as goal

@@ -8,8 +8,6 @@ mod nesting;
 mod parsing;
 mod printing;
 #[cfg(test)]
-mod readings;
-#[cfg(test)]
 mod tests;
 mod token;
 mod truth;

@@ -37,7 +37,7 @@ fine_bitmaps level m n rows vs number apart =
     ∙ ap (λ l. map (bitmap (TwoLevel level m) rows vs) l) (sym (shifted q 0 n))
     ∙ map_after (bitmap (TwoLevel level m) rows vs) q (range_with_len 0 n)
     ∙ map_same_from (λ k. bitmap (TwoLevel level m) rows vs (q + k)) (λ k. union_of rows (λ b. b == k) vs) 0 n
-      (λ k l. ap (λ x. union_of rows (member (TwoLevel level m) x (q + k)) vs) number ∙ union_of-same rows (member (TwoLevel level m) n (q + k)) (λ b. b == k) vs (λ b h. fine_member level m n k b))
+    (λ k l. ap (λ x. union_of rows (member (TwoLevel level m) x (q + k)) vs) number ∙ union_of-same rows (member (TwoLevel level m) n (q + k)) (λ b. b == k) vs (λ b h. fine_member level m n k b))
     ∙ ap (λ x. map (λ k. union_of rows (λ b. b == k) vs) (range_with_len 0 x)) (let e : n ≡ length vs - 0 = omega (arith, number) in e)
     ∙ sym (all_bins rows vs apart)
 
@@ -55,10 +55,10 @@ all_bitmaps level m n rows vs groups items number some size enough count apart i
     let bins : AreBins rows groups = rw is (groups_are_bins rows g c vs apart) in
     let two : unwrap_or (bitmap_count (TwoLevel level m) n) 0 ≡ q + n = count_two level m n (coarse_count level c) some refl count in
     let first : items ≡ map (bitmap (one_level level) rows all) (range_with_len 0 q) =
-      coarse bins ∙ ap (λ l. bitmaps_of (one_level level) rows l) is
-      ∙ ap (λ x. map (bitmap (one_level level) rows all) (from_to 0 (unwrap_or (bitmap_count (one_level level) x) 0))) (length-groups rows g c vs)
-      ∙ ap (λ o. map (bitmap (one_level level) rows all) (from_to 0 (unwrap_or o 0))) (count_is level c)
-      ∙ ap (λ x. map (bitmap (one_level level) rows all) (range_with_len 0 x)) (let e : q - 0 ≡ q = omega arith in e) in
+    coarse bins ∙ ap (λ l. bitmaps_of (one_level level) rows l) is
+    ∙ ap (λ x. map (bitmap (one_level level) rows all) (from_to 0 (unwrap_or (bitmap_count (one_level level) x) 0))) (length-groups rows g c vs)
+    ∙ ap (λ o. map (bitmap (one_level level) rows all) (from_to 0 (unwrap_or o 0))) (count_is level c)
+    ∙ ap (λ x. map (bitmap (one_level level) rows all) (range_with_len 0 x)) (let e : q - 0 ≡ q = omega arith in e) in
     let same : items ≡ map (bitmap (TwoLevel level m) rows vs) (range_with_len 0 q) = first ∙ sym (map_same_from (bitmap (TwoLevel level m) rows vs) (bitmap (one_level level) rows all) 0 q (λ k l. coarse_bitmap level m n rows k vs number size enough apart (omega arith))) in
     let start : 0 + q ≡ q = omega arith in
     ap (λ l. l ++ vs) same

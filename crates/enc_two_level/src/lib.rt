@@ -12,3 +12,5 @@ mod two_level;
 pub use any::AnyEncoding;
 pub use two_level::TwoLevel;
 
+#[cfg(test)]
+mod tests;

@@ -30,7 +30,7 @@ returns-clause-bitmaps g c = λ apart.
     let count = is_counted level c.level-2.result.coarse m n (length c.deref.result.now) c.div_ceil-size.result c.level-2.ensures number size c.in_ok-bitmaps.ensures.counted in
     let is : vectors groups ≡ group_rows rows (div_ceil n m) vs (groups_of n m) = let P : ℕ → Type 0 = λ x. vectors groups ≡ group_rows rows x vs (div_ceil n x) in subst P size (c.in_ok-groups.ensures.groups apart) in
     let coarse : AreBins rows (vectors groups) → items ≡ bitmaps_of (one_level level) rows (vectors groups) =
-      let P : List Bin → Type 0 = λ l. AreBins rows (vectors l) → items ≡ bitmaps_of (one_level level) rows (vectors l) in
-      let Q : Coarse → Type 0 = λ l. AreBins rows (vectors c.deref.result.now) → items ≡ bitmaps_of (one_level l) rows (vectors c.deref.result.now) in
-      subst P same (subst Q c.level-2.ensures c.in_ok-bitmaps.ensures.bitmaps) in
+    let P : List Bin → Type 0 = λ l. AreBins rows (vectors l) → items ≡ bitmaps_of (one_level level) rows (vectors l) in
+    let Q : Coarse → Type 0 = λ l. AreBins rows (vectors c.deref.result.now) → items ≡ bitmaps_of (one_level l) rows (vectors c.deref.result.now) in
+    subst P same (subst Q c.level-2.ensures c.in_ok-bitmaps.ensures.bitmaps) in
     c.in_ok-append_copies.ensures ∙ all_bitmaps level m n rows vs (vectors groups) items (length-map bins (λ (b : Bin). b.rows)) some one (enough_groups m n one) count apart is coarse

@@ -1,4 +1,4 @@
-use Rattle.std.proofs.Common.{rules, ◌≡◌, ◌∙◌, map, not, string_bytes, bytes_eq, ap}
+use Rattle.std.proofs.Common.{rules, ◌∙◌, map, not, string_bytes, bytes_eq, ap}
 use Rattle.std.proofs.lemmas.Fn.{filter_same}
 use Rattle.fb_outside.specs.Open.{without}
 use Rattle.fb_outside.proofs.OpenLemmas.{map-filter}

@@ -2,3 +2,4 @@ pub mod OpenLemmas
 pub mod CountLemmas
 pub mod ScanLemmas
 pub mod WorldLemmas
+pub mod AskedLemmas

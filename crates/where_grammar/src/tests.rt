@@ -202,13 +202,13 @@ fn doubled(alloc: Global, piece: &str, n: u32) -> Result<String, AllocError> {
 }
 
 #[test]
-fn a_megabyte_is_refused(rt: HostRuntime) -> Result<(), Fail> {
+fn large_texts_are_refused(rt: HostRuntime) -> Result<(), Fail> {
     for (piece, n, end, want) in [
-        (" ", 20, "", "Syntax"),
+        (" ", 16, "", "Syntax"),
         (" ", 20, " ", "Length"),
-        ("(", 20, "", "Depth"),
-        ("not ", 18, "", "Depth"),
-        ("a=1 or ", 17, "", "Syntax"),
+        ("(", 16, "", "Depth"),
+        ("not ", 14, "", "Depth"),
+        ("a=1 or ", 12, "", "Syntax"),
     ] {
         let mut text = doubled(rt.alloc(), piece, n)?;
         text.push_str(end)?;

@@ -1,3 +1,0 @@
-pub mod MapLemmas
-pub mod StandLemmas
-pub mod OneIntLemmas

@@ -1,0 +1,12 @@
+//! Datasets: opened from their catalog and the texts of their parts, made, and grown by loads.
+#![tactic(auto)]
+
+mod appending;
+mod content;
+mod fault;
+mod opening;
+
+pub use appending::append;
+pub use content::{Dataset, create};
+pub use fault::{AppendFault, DamageKind, OpenFault};
+pub use opening::open_dataset;

@@ -1,5 +1,5 @@
 -- What a load leaves behind each of its answers.
-use Rattle.std.specs.Prelude.{◌≡◌, ◌⊎◌, ℕ, List, length, Option, Result, Ok, Err}
+use Rattle.std.specs.Prelude.{◌≡◌, ◌⊎◌, ℕ, List, length, Option, None, Result, Ok, Err}
 use Rattle.fb_outside.specs.Files.{Files, SameFiles}
 use Rattle.fb_outside.specs.Puts.{PutsAll, PutsFront}
 use Rattle.fb_types.specs.Schemas.{IsSchema}

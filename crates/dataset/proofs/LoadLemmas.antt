@@ -1,16 +1,16 @@
 -- The files of a load that isn't refused make the files stand for the world after it.
-use Rattle.std.proofs.Common.{◌≡◌, ◌≢◌, ◌+◌, ◌<◌, ◌≤◌, nat_lt, ◌&&◌, ℕ, suc, Bool, true, false, if◌then◌else◌, List, [], ◌∷◌, ◌++◌, All, length, map, take, Option, Some, None, option_map, refl, sym, ap, ◌∙◌, subst, inl, inr, arith, bytes_eq, length-append, get_or}
+use Rattle.std.proofs.Common.{◌≡◌, ◌≢◌, ◌⊎◌, ◌+◌, ◌<◌, ◌≤◌, nat_lt, ◌&&◌, ℕ, suc, Bool, true, false, if◌then◌else◌, List, [], ◌∷◌, ◌++◌, All, length, map, take, Option, Some, None, option_map, refl, sym, ap, ◌∙◌, subst, inl, inr, arith, bytes_eq, length-append, get_or}
 use Rattle.std.specs.FinMap.{insert}
 use Rattle.std.specs.List.{AllPairs, flat_map, range_with_len}
-use Rattle.std.proofs.lemmas.Bool.{and_parts}
+use Rattle.std.proofs.lemmas.Bool.{and_from, and_parts}
 use Rattle.std.proofs.lemmas.Bool.Decides.{nat_tests}
-use Rattle.std.proofs.lemmas.List.{length-map, take-append-le}
+use Rattle.std.proofs.lemmas.List.{length-map, take-append-le, take_all}
 use Rattle.std.proofs.lemmas.List.Elements.{All-append, All-cons, All-head, All-nil, All-tail, All-take, All-weaker}
 use Rattle.std.proofs.lemmas.List.FromFn.{get_or-map-range_with_len, length-map-range_with_len}
 use Rattle.std.proofs.lemmas.Slice.Eq.{bytes_eq-Decides}
-use Rattle.fb_outside.specs.Files.{Files, file_at}
-use Rattle.fb_outside.specs.Puts.{File, IsThere, with_files}
-use Rattle.fb_outside.proofs.PutLemmas.{with_files-append, with_files-there}
+use Rattle.fb_outside.specs.Files.{ChangesAmong, Files}
+use Rattle.fb_outside.specs.Puts.{File, IsThere, PutsAll, PutsFront, with_files}
+use Rattle.fb_outside.proofs.PutLemmas.{ChangesAmong-front, with_files-append, with_files-there}
 use Rattle.fb_types.specs.declared.cells.Cell.{Cell}
 use Rattle.fb_types.specs.declared.schemas.Column.{Column}
 use Rattle.fb_types.specs.declared.types.ColType.{ColType}
@@ -23,14 +23,14 @@ use Rattle.part_meta.specs.CatalogText.{catalog_text}
 use Rattle.part_meta.specs.FileNames.{IsFileOf, IsPartFile, catalog_name}
 use Rattle.world.specs.World.{Content, IsContent, Partition, World, catalog_data, content_at}
 use Rattle.world.specs.PartFiles.{part_files}
-use Rattle.world.specs.Stands.{IsUnindexed, PartRests, Stands}
+use Rattle.world.specs.Stands.{IsUnindexed, PartRests, Stands, StandsFor}
 use Rattle.world.specs.Effects.{Loads, after_one, extended, found_or_empty, new_part, new_parts, part_count}
 use Rattle.world.proofs.PieceLemmas.{All-new_parts}
 use Rattle.world.proofs.ContentLemmas.{IsContent-extended, numbers-extended}
 use Rattle.world.proofs.FileLemmas.{IsOfPart, parts-apart, parts-written}
 use Rattle.world.proofs.KeptLemmas.{IsNewName, IsNewNumber, IsReady, KeepsParts, Stands-new, Stands-put, keeps-others, parts-kept, unindexed-kept}
-use Rattle.dataset.specs.Appended.{append_files, first_difference, grown_catalog, is_same_column, most_numbers, most_parts, refusal, refusal_by, too_many}
-use Rattle.dataset.specs.Loads.{IsLoad, catalog_before, load_files}
+use Rattle.dataset.specs.Appended.{SchemaDiffers, append_files, first_difference, grown_catalog, is_same_column, most_numbers, most_parts, refusal, refusal_by, too_many}
+use Rattle.dataset.specs.Loads.{DifferFirst, IsLoad, catalog_before, load_files}
 
 -- ---- what isn't refused
 
@@ -48,6 +48,12 @@ same_column a b same =
     let names : a.name ≡ b.name = (bytes_eq-Decides a.name b.name).0 parts.0 in
     let types : a.ty ≡ b.ty = same_type a.ty b.ty ((bytes_eq-Decides (type_name a.ty) (type_name b.ty)).0 parts.1) in
     ap (λ (name : List ℕ). column_of name a.ty) names ∙ ap (column_of b.name) types
+
+one_column : (a b : Column) → a ≡ b → is_same_column a b ≡ true
+one_column a b e =
+    and_from (bytes_eq a.name b.name) (bytes_eq (type_name a.ty) (type_name b.ty))
+    ((bytes_eq-Decides a.name b.name).1 (ap (λ (c : Column). c.name) e))
+    ((bytes_eq-Decides (type_name a.ty) (type_name b.ty)).1 (ap (λ (c : Column). type_name c.ty) e))
 
 pub same_schema : (a b : List Column) → first_difference a b ≡ None → a ≡ b
 same_schema [] [] e = refl
@@ -93,6 +99,76 @@ accepted catalog schema per_part rows e = by (first_difference catalog.schema sc
         let few = few_enough (length catalog.parts + part_count per_part rows) (catalog.next + part_count per_part rows) h in
         record { same = same_schema catalog.schema schema same; parts = few.0; numbers = few.1 }
     by (Some column) differs h = absurd (cc)
+
+-- ---- what is
+
+pub no_difference : (columns : List Column) → first_difference columns columns ≡ None
+no_difference [] = refl
+no_difference (column ∷ columns) = by (is_same_column column column) refl (no_difference columns)
+  where
+    by : (test : Bool) → is_same_column column column ≡ test → first_difference columns columns ≡ None
+        → (if test then option_map suc (first_difference columns columns) else Some 1) ≡ None
+    by true same later = ap (option_map suc) later
+    by false differs later =
+        let same : is_same_column column column ≡ true = one_column column column refl in
+        absurd (cc)
+
+pub differ_first : (a b : List Column) (number : ℕ) → first_difference a b ≡ Some number → DifferFirst a b number
+differ_first [] [] number e = absurd (cc)
+differ_first [] (other ∷ others) number e =
+    record { place = 0; is = let one : 1 ≡ number = cc in sym one; before = refl; there = λ same. absurd (cc) }
+differ_first (column ∷ columns) [] number e =
+    record { place = 0; is = let one : 1 ≡ number = cc in sym one; before = refl; there = λ same. absurd (cc) }
+differ_first (column ∷ columns) (other ∷ others) number e =
+    by (is_same_column column other) refl e (λ less found. differ_first columns others less found)
+  where
+    later : (d : Option ℕ) → first_difference columns others ≡ d → is_same_column column other ≡ true → option_map suc d ≡ Some number
+        → ((less : ℕ) → first_difference columns others ≡ Some less → DifferFirst columns others less)
+        → DifferFirst (column ∷ columns) (other ∷ others) number
+    later None found same h rest = absurd (cc)
+    later (Some less) found same h rest =
+        let further = rest less found in
+        let first : column ≡ other = same_column column other same in
+        let next : suc less ≡ number = cc in
+        let is : less ≡ further.place + 1 = further.is in
+        let before : take further.place columns ≡ take further.place others = further.before in
+        record {
+          place = suc further.place;
+          is = omega (arith, next, is);
+          before = ap (λ (c : Column). c ∷ take further.place columns) first ∙ ap (λ (cs : List Column). other ∷ cs) before;
+          there = further.there;
+        }
+
+    by : (test : Bool) → is_same_column column other ≡ test
+        → (if test then option_map suc (first_difference columns others) else Some 1) ≡ Some number
+        → ((less : ℕ) → first_difference columns others ≡ Some less → DifferFirst columns others less)
+        → DifferFirst (column ∷ columns) (other ∷ others) number
+    by true same h rest = later (first_difference columns others) refl same h rest
+    by false differs h rest =
+        record {
+          place = 0;
+          is = let one : 1 ≡ number = cc in sym one;
+          before = refl;
+          there = λ same.
+              let equal : column ≡ other = cc in
+              let alike : is_same_column column other ≡ true = one_column column other equal in
+              absurd (cc);
+        }
+
+pub refused-by_columns : (catalog : Catalog) (schema : List Column) (per_part rows number : ℕ) → first_difference catalog.schema schema ≡ Some number
+    → refusal catalog schema per_part rows ≡ Some (SchemaDiffers number)
+unfolding refusal
+refused-by_columns catalog schema per_part rows number e =
+    ap (λ (d : Option ℕ). refusal_by d
+    (too_many (length catalog.parts + part_count per_part rows) (catalog.next + part_count per_part rows))) e
+
+pub refused-by_counts : (catalog : Catalog) (per_part rows : ℕ)
+    → refusal catalog catalog.schema per_part rows
+    ≡ too_many (length catalog.parts + part_count per_part rows) (catalog.next + part_count per_part rows)
+unfolding refusal
+refused-by_counts catalog per_part rows =
+    ap (λ (d : Option ℕ). refusal_by d
+    (too_many (length catalog.parts + part_count per_part rows) (catalog.next + part_count per_part rows))) (no_difference catalog.schema)
 
 -- ---- the files of the new parts
 
@@ -291,6 +367,41 @@ module _ (files : Files) (world : World) (path : List ℕ) (schema : List Column
       (Stands-new files world path found.next (take some parts) (All-take (λ (f : File). IsNewName path found.next f.name) some parts fresh)
       was.known h)
 
+-- ---- of a store
+
+pub StandsFor-loaded : (old new : Option Files) (world : World) (path : List ℕ) (schema : List Column) (per_part : ℕ) (records : List (List Cell))
+    → IsLoad world path schema per_part records → StandsFor old world → PutsAll (load_files world path schema per_part records) old new
+    → StandsFor new (after_one world (Loads path schema per_part records))
+StandsFor-loaded None new world path schema per_part records load h put = absurd h
+StandsFor-loaded (Some files) new world path schema per_part records load h put =
+    subst (λ (told : Option Files). StandsFor told (after_one world (Loads path schema per_part records))) (sym put)
+    (Stands-loaded files world path schema per_part records load h)
+
+-- a front of a list is all of it, or less
+all_or_less : (count size : ℕ) → count ≤ size → (count < size) ⊎ (size ≤ count)
+all_or_less count size few = by (nat_lt count size) refl
+  where
+    by : (less : Bool) → nat_lt count size ≡ less → (count < size) ⊎ (size ≤ count)
+    by true h = inl (grind (arith, nat_tests))
+    by false h = inr (grind (arith, nat_tests))
+
+pub StandsFor-stopped : (old new : Option Files) (world : World) (path : List ℕ) (schema : List Column) (per_part : ℕ) (records : List (List Cell))
+    → IsLoad world path schema per_part records → StandsFor old world → PutsFront (load_files world path schema per_part records) old new
+    → StandsFor new world ⊎ StandsFor new (after_one world (Loads path schema per_part records))
+StandsFor-stopped None new world path schema per_part records load h put = absurd h
+StandsFor-stopped (Some files) new world path schema per_part records load h put =
+    by (all_or_less put.count (length (load_files world path schema per_part records)) put.within)
+  where
+    by : (put.count < length (load_files world path schema per_part records)) ⊎ (length (load_files world path schema per_part records) ≤ put.count)
+        → StandsFor new world ⊎ StandsFor new (after_one world (Loads path schema per_part records))
+    by (inl less) =
+        inl (subst (λ (told : Option Files). StandsFor told world) (sym put.front)
+        (Stands-front files world path schema per_part records load h put.count less))
+    by (inr all) =
+        inr (StandsFor-loaded (Some files) new world path schema per_part records load h
+        (subst (λ (list : List File). PutsAll list (Some files) new)
+        (take_all put.count (load_files world path schema per_part records) all) put.front))
+
 -- ---- the names
 
 new_is_file : (path : List ℕ) (next : ℕ) (name : List ℕ) → IsNewName path next name → IsFileOf path name
@@ -315,3 +426,9 @@ names-of_load path catalog per_part records valid few =
     (All-weaker (λ (f : File). IsNewName path catalog.next f.name) (λ f. IsFileOf path f.name) (λ f h. new_is_file path catalog.next f.name h)
     first (news-fresh path catalog.schema catalog.next per_part records valid few))
     (All-cons (λ (f : File). IsFileOf path f.name) last [] (inl refl) (All-nil (λ (f : File). IsFileOf path f.name))))
+
+pub others-stay : (old new : Option Files) (path : List ℕ) (catalog : Catalog) (per_part : ℕ) (records : List (List Cell)) → IsSchema catalog.schema
+    → catalog.next + part_count per_part (length records) ≤ 4096 → PutsFront (append_files path catalog per_part records) old new
+    → ChangesAmong (IsFileOf path) old new
+others-stay old new path catalog per_part records valid few put =
+    ChangesAmong-front (IsFileOf path) (append_files path catalog per_part records) old new (names-of_load path catalog per_part records valid few) put

@@ -1,5 +1,5 @@
 -- Loads that aren't refused, and the files that they write.
-use Rattle.std.specs.Prelude.{◌≡◌, ◌≤◌, ℕ, List, length, None}
+use Rattle.std.specs.Prelude.{◌≡◌, ◌≢◌, ◌+◌, ◌≤◌, ℕ, List, length, take, slice_get, None}
 use Rattle.std.specs.List.{All}
 use Rattle.fb_outside.specs.Names.{IsPath}
 use Rattle.fb_outside.specs.Puts.{File}
@@ -28,3 +28,10 @@ pub record IsLoad (world : World) (path : List ℕ) (schema : List Column) (per_
   pub few : per_part ≤ 4194304
   pub fit : All (λ cells. RecordFits cells schema) records
   pub accepted : refusal (catalog_before world path schema) schema per_part (length records) ≡ None
+
+-- Two lists of columns are the same up to a place, and there they have other columns, or one has none: its number, from 1.
+pub record DifferFirst (a b : List Column) (number : ℕ) : Type 0 where
+  pub place : ℕ
+  pub is : number ≡ place + 1
+  pub before : take place a ≡ take place b
+  pub there : slice_get a place ≢ slice_get b place

@@ -4,7 +4,7 @@
 #![tactic(auto)]
 
 ghost use Rattle.std.specs.Prelude.{◌≡◌, ◌≢◌, ◌≤◌, ◌+◌, ◌*◌, ℕ, pos, negsuc, List, [], ◌∷◌, ◌++◌, All, length, map, Some, None, option_map, codes};
-ghost use Rattle.std.specs.FinMap.{get};
+ghost use Rattle.std.specs.FinMap.{empty, get};
 ghost use Rattle.std.specs.List.{flat_map};
 ghost use Rattle.fb_outside.specs.Files.{Files, file_at};
 ghost use Rattle.fb_outside.specs.Names.{IsPath};
@@ -16,11 +16,12 @@ ghost use Rattle.fb_types.specs.declared.types.ColType.TheVariants.{Category, In
 ghost use Rattle.world.specs.World.{Content, IsContent, Partition, World, content_at, no_datasets, records_of};
 ghost use Rattle.world.specs.PartFiles.{column_files, part_files};
 ghost use Rattle.world.specs.Stands.{IsFree, IsInputName, Stands};
-ghost use Rattle.world.specs.Effects.{Loads, after_one, empty_content, extended, found_or_empty, new_parts, part_count, piece};
+ghost use Rattle.world.specs.Effects.{Effect, Loads, after, after_one, empty_content, extended, found_or_empty, new_parts, part_count, piece};
 
 /// Files among which every path is free stand for the world without datasets.
 pub fn files_without_datasets()
-    ensures { (files inputs : Files) → ((path : List ℕ) → IsPath path → IsFree files path)
+    ensures none { Stands empty (no_datasets empty) }
+    ensures free { (files inputs : Files) → ((path : List ℕ) → IsPath path → IsFree files path)
         → ((name : List ℕ) → IsInputName name → file_at files name ≡ get inputs name) → Stands files (no_datasets inputs) }
 {}
 
@@ -114,4 +115,9 @@ pub fn the_content_after_a_load()
         → length content.parts + part_count per_part (length records) ≤ 1024 → IsContent (extended content per_part records) }
     ensures records { (content : Content) (per_part : ℕ) (records : List (List Cell)) → 1 ≤ per_part
         → records_of (extended content per_part records) ≡ records_of content ++ records }
+{}
+
+/// The world after effects is that after the first ones and then the others.
+pub fn the_order_of_effects()
+    ensures { (world : World) (effects more : List Effect) → after world (effects ++ more) ≡ after (after world effects) more }
 {}

@@ -1,7 +1,7 @@
 -- The files of a load that isn't refused make the files stand for the world after it.
-use Rattle.std.proofs.Common.{◌≡◌, ◌≢◌, ◌⊎◌, ◌+◌, ◌<◌, ◌≤◌, nat_lt, ◌&&◌, ℕ, suc, Bool, true, false, if◌then◌else◌, List, [], ◌∷◌, ◌++◌, All, length, map, take, Option, Some, None, option_map, refl, sym, ap, ◌∙◌, subst, inl, inr, arith, bytes_eq, length-append, get_or}
+use Rattle.std.proofs.Common.{◌≡◌, ◌≢◌, ◌⊎◌, ◌↔◌, ◌+◌, ◌<◌, ◌≤◌, nat_lt, ℕ, suc, Bool, true, false, if◌then◌else◌, List, [], ◌∷◌, ◌++◌, All, length, map, take, Option, Some, None, option_map, refl, sym, ap, ◌∙◌, subst, inl, inr, arith, bytes_eq, length-append, get_or}
 use Rattle.std.specs.FinMap.{insert}
-use Rattle.std.specs.List.{AllPairs, flat_map, range_with_len}
+use Rattle.std.specs.List.{AllPairs, flat_map}
 use Rattle.std.proofs.lemmas.Bool.{and_from, and_parts}
 use Rattle.std.proofs.lemmas.Bool.Decides.{nat_tests}
 use Rattle.std.proofs.lemmas.List.{length-map, take-append-le, take_all}
@@ -20,17 +20,17 @@ use Rattle.fb_types.specs.Types.{type_name}
 use Rattle.fb_types.proofs.ItemFacts.{type_named-type_name}
 use Rattle.part_meta.specs.declared.catalog.Catalog.{Catalog}
 use Rattle.part_meta.specs.CatalogText.{catalog_text}
-use Rattle.part_meta.specs.FileNames.{IsFileOf, IsPartFile, catalog_name}
+use Rattle.part_meta.specs.FileNames.{IsFileOf, catalog_name}
 use Rattle.world.specs.World.{Content, IsContent, Partition, World, catalog_data, content_at}
 use Rattle.world.specs.PartFiles.{part_files}
 use Rattle.world.specs.Stands.{IsUnindexed, PartRests, Stands, StandsFor}
 use Rattle.world.specs.Effects.{Loads, after_one, extended, found_or_empty, new_part, new_parts, part_count}
 use Rattle.world.proofs.PieceLemmas.{All-new_parts}
 use Rattle.world.proofs.ContentLemmas.{IsContent-extended, numbers-extended}
-use Rattle.world.proofs.FileLemmas.{IsOfPart, parts-apart, parts-written}
+use Rattle.world.proofs.FileLemmas.{parts-apart, parts-written}
 use Rattle.world.proofs.KeptLemmas.{IsNewName, IsNewNumber, IsReady, KeepsParts, Stands-new, Stands-put, keeps-others, parts-kept, unindexed-kept}
-use Rattle.dataset.specs.Appended.{SchemaDiffers, append_files, first_difference, grown_catalog, is_same_column, most_numbers, most_parts, refusal, refusal_by, too_many}
-use Rattle.dataset.specs.Loads.{DifferFirst, IsLoad, catalog_before, load_files}
+use Rattle.dataset.specs.Appended.{SchemaDiffers, append_files, first_difference, grown_catalog, is_same_column, refusal, refusal_by, too_many}
+use Rattle.dataset.specs.Loads.{DifferFirst, IsLoad, load_files}
 
 -- ---- what isn't refused
 
@@ -170,6 +170,22 @@ refused-by_counts catalog per_part rows =
     ap (λ (d : Option ℕ). refusal_by d
     (too_many (length catalog.parts + part_count per_part rows) (catalog.next + part_count per_part rows))) (no_difference catalog.schema)
 
+none_too_many : (parts next : ℕ) → parts ≤ 1024 → next ≤ 4096 → too_many parts next ≡ None
+none_too_many parts next few low =
+    let first : nat_lt 1024 parts ≡ false = grind (arith, nat_tests) in
+    let second : nat_lt 4096 next ≡ false = grind (arith, nat_tests) in
+    rw (first, second)
+
+pub refusal-none : (catalog : Catalog) (schema : List Column) (per_part rows : ℕ) → refusal catalog schema per_part rows ≡ None
+    ↔ (catalog.schema ≡ schema) × (length catalog.parts + part_count per_part rows ≤ 1024) × (catalog.next + part_count per_part rows ≤ 4096)
+refusal-none catalog schema per_part rows = (
+  λ none. let taken = accepted catalog schema per_part rows none in (taken.same, taken.parts, taken.numbers),
+  λ h.
+      subst (λ (columns : List Column). refusal catalog columns per_part rows ≡ None) h.0
+      (refused-by_counts catalog per_part rows
+      ∙ none_too_many (length catalog.parts + part_count per_part rows) (catalog.next + part_count per_part rows) h.1 h.2),
+)
+
 -- ---- the files of the new parts
 
 abbrev news : List ℕ → List Column → (next per_part : ℕ) → List (List Cell) → List File
@@ -202,9 +218,9 @@ numbers-differ next per_part records i j d before within e =
     let make = new_part next per_part records in
     let inside : j < count = omega (arith, length-map-range_with_len make 0 count) in
     let first : (get_or (new_parts next per_part records) i d).number ≡ next + i
-        = ap (λ (p : Partition). p.number) (get_or-map-range_with_len make 0 count i i d (omega arith) (omega arith)) in
+    = ap (λ (p : Partition). p.number) (get_or-map-range_with_len make 0 count i i d (omega arith) (omega arith)) in
     let second : (get_or (new_parts next per_part records) j d).number ≡ next + j
-        = ap (λ (p : Partition). p.number) (get_or-map-range_with_len make 0 count j j d inside (omega arith)) in
+    = ap (λ (p : Partition). p.number) (get_or-map-range_with_len make 0 count j j d inside (omega arith)) in
     omega (arith, first, second, e)
 
 All-split : {X : Type 0} (P : X → Type 0) (xs ys : List X) → All P (xs ++ ys) → All P xs × All P ys
@@ -360,9 +376,9 @@ module _ (files : Files) (world : World) (path : List ℕ) (schema : List Column
   Stands-front some few =
       let is = append_files-are path (catalog_data found) per_part records in
       let within : some ≤ length parts
-          = omega (arith, ap length is, length-append parts (catalog_file path (catalog_data found) count ∷ []), few) in
+      = omega (arith, ap length is, length-append parts (catalog_file path (catalog_data found) count ∷ []), few) in
       let front : take some (load_files world path schema per_part records) ≡ take some parts
-          = ap (take some) is ∙ take-append-le some parts (catalog_file path (catalog_data found) count ∷ []) within in
+      = ap (take some) is ∙ take-append-le some parts (catalog_file path (catalog_data found) count ∷ []) within in
       subst (λ (list : List File). Stands (with_files list files) world) (sym front)
       (Stands-new files world path found.next (take some parts) (All-take (λ (f : File). IsNewName path found.next f.name) some parts fresh)
       was.known h)

@@ -1,6 +1,6 @@
 //! Laws of loads: what their files are, what they make of a world, and when they are refused.
 
-ghost use Rattle.std.specs.Prelude.{ℕ, pos, negsuc, ◌≡◌, ◌≤◌, ◌<◌, ◌+◌, ◌⊎◌, Option, Some, None, List, [], ◌∷◌, All, length, take, codes};
+ghost use Rattle.std.specs.Prelude.{ℕ, pos, negsuc, ◌≡◌, ◌≤◌, ◌<◌, ◌+◌, ◌⊎◌, ◌↔◌, Option, Some, None, List, [], ◌∷◌, All, length, take, codes};
 ghost use Rattle.fb_outside.specs.Files.{ChangesAmong, Files};
 ghost use Rattle.fb_outside.specs.Puts.{PutsAll, PutsFront, with_files};
 ghost use Rattle.fb_types.specs.declared.cells.Cell.TheVariants.{Null, Whole};
@@ -73,6 +73,8 @@ pub fn the_files_of_a_load()
 
 /// When a load is refused, and why: other columns first, then too many parts, then too great a number.
 pub fn the_refusals_of_loads()
+    ensures taken { (catalog : Catalog) (schema : List Column) (per_part rows : ℕ) → refusal catalog schema per_part rows ≡ None
+        ↔ (catalog.schema ≡ schema) × (length catalog.parts + part_count per_part rows ≤ 1024) × (catalog.next + part_count per_part rows ≤ 4096) }
     ensures same { (columns : List Column) → first_difference columns columns ≡ None }
     ensures only { (a b : List Column) → first_difference a b ≡ None → a ≡ b }
     ensures differs { (a b : List Column) (number : ℕ) → first_difference a b ≡ Some number → DifferFirst a b number }

@@ -1,15 +1,15 @@
 -- A dataset that grows by a load.
-use Rattle.std.proofs.Common.{◌≡◌, ◌+◌, ◌*◌, ◌<◌, ◌≤◌, ℕ, zero, suc, List, [], ◌∷◌, ◌++◌, All, length, map, take, drop, refl, sym, ap, ◌∙◌, subst, arith, length-append}
-use Rattle.std.specs.List.{AllPairs, flat_map, range_with_len}
+use Rattle.std.proofs.Common.{◌≡◌, ◌+◌, ◌*◌, ◌<◌, ◌≤◌, ℕ, zero, suc, List, [], ◌∷◌, ◌++◌, All, length, map, drop, sym, ap, ◌∙◌, subst, arith, length-append}
+use Rattle.std.specs.List.{AllPairs, range_with_len}
 use Rattle.std.proofs.lemmas.List.{append-nil, length-map, map-append}
 use Rattle.std.proofs.lemmas.List.Concat.{flat_map-append}
-use Rattle.std.proofs.lemmas.List.Elements.{All-append, All-cons, All-drop, All-head, All-nil, All-same, All-tail, All-take, All-weaker}
+use Rattle.std.proofs.lemmas.List.Elements.{All-append, All-drop, All-head, All-tail, All-take, All-weaker}
 use Rattle.std.proofs.lemmas.List.FromFn.{length-range_with_len}
 use Rattle.std.proofs.lemmas.List.Kept.{AllPairs-cons}
 use Rattle.fb_types.specs.declared.cells.Cell.{Cell}
 use Rattle.fb_types.specs.declared.schemas.Column.{Column}
 use Rattle.fb_types.specs.Cells.{RecordFits}
-use Rattle.world.specs.World.{Content, IsContent, IsPartition, Partition, catalog_data, records_of}
+use Rattle.world.specs.World.{Content, IsContent, IsPartition, Partition, records_of}
 use Rattle.world.specs.Effects.{extended, new_part, new_parts, part_count}
 use Rattle.world.proofs.PieceLemmas.{All-new_parts, All-range, part_count-none, numbers-new_parts, piece-size, pieces-all, range-rising}
 
@@ -53,7 +53,7 @@ extended-none content per_part some =
     let none : part_count per_part 0 ≡ 0 = part_count-none per_part some in
     let next : content.next + part_count per_part 0 ≡ content.next = omega (arith, none) in
     let parts : new_parts content.next per_part [] ≡ []
-        = ap (λ (n : ℕ). map (new_part content.next per_part []) (range_with_len 0 n)) none in
+    = ap (λ (n : ℕ). map (new_part content.next per_part []) (range_with_len 0 n)) none in
     let grown = λ (n : ℕ) (ps : List Partition). made content.schema n (content.parts ++ ps) in
     ap (λ (n : ℕ). grown n (new_parts content.next per_part [])) next
     ∙ ap (grown content.next) parts
@@ -80,17 +80,17 @@ IsContent-extended content per_part records valid some few fit numbered room =
     let old = map (λ (part : Partition). part.number) content.parts in
     let is = numbers-extended content per_part records in
     let rising : AllPairs (λ a b. a < b) (old ++ range_with_len content.next count)
-        = AllPairs-append (λ a b. a < b) old (range_with_len content.next count) valid.catalog.rising (range-rising content.next count)
-        (All-weaker (λ number. number < content.next) (λ number. All (λ other. number < other) (range_with_len content.next count))
-        (λ number below. All-range (λ other. number < other) content.next count (λ other low within. omega arith))
-        old valid.catalog.below) in
+    = AllPairs-append (λ a b. a < b) old (range_with_len content.next count) valid.catalog.rising (range-rising content.next count)
+    (All-weaker (λ number. number < content.next) (λ number. All (λ other. number < other) (range_with_len content.next count))
+    (λ number below. All-range (λ other. number < other) content.next count (λ other low within. omega arith))
+    old valid.catalog.below) in
     let below : All (λ number. number < content.next + count) (old ++ range_with_len content.next count)
-        = All-append (λ number. number < content.next + count) old (range_with_len content.next count)
-        (All-weaker (λ number. number < content.next) (λ number. number < content.next + count) (λ number h. omega arith) old valid.catalog.below)
-        (All-range (λ number. number < content.next + count) content.next count (λ number low within. within)) in
+    = All-append (λ number. number < content.next + count) old (range_with_len content.next count)
+    (All-weaker (λ number. number < content.next) (λ number. number < content.next + count) (λ number h. omega arith) old valid.catalog.below)
+    (All-range (λ number. number < content.next + count) content.next count (λ number low within. within)) in
     let size : length old ≡ length content.parts = length-map content.parts (λ (part : Partition). part.number) in
     let longer : length (old ++ range_with_len content.next count) ≤ 1024
-        = omega (arith, length-append old (range_with_len content.next count), length-range_with_len content.next count) in
+    = omega (arith, length-append old (range_with_len content.next count), length-range_with_len content.next count) in
     record {
       catalog = record {
         schema = valid.catalog.schema;

@@ -1,5 +1,5 @@
 -- Which files a part has, and that no two of them have one name.
-use Rattle.std.proofs.Common.{◌≡◌, ◌≢◌, ◌+◌, ◌<◌, ◌≤◌, ℕ, List, [], ◌∷◌, ◌++◌, All, length, map, Option, Some, None, refl, sym, ap, ◌∙◌, subst, arith}
+use Rattle.std.proofs.Common.{◌≡◌, ◌≢◌, ◌+◌, ◌<◌, ℕ, List, [], ◌∷◌, All, map, Option, Some, None, refl, sym, ◌∙◌}
 use Rattle.std.specs.List.{AllPairs, flat_map}
 use Rattle.std.proofs.lemmas.List.Elements.{All-append, All-cons, All-head, All-map, All-nil, All-tail, All-weaker}
 use Rattle.fb_outside.specs.Puts.{File}
@@ -98,8 +98,10 @@ apart-of_three : (third : FileKind) → third ≢ file.Values → third ≢ file
 apart-of_three third no_values no_mask values mask more = (
   All-cons (λ (g : Contents). g.0 ≢ file.Values) (file.Mask, mask) ((third, more) ∷ []) (λ e. cc)
       (All-cons (λ (g : Contents). g.0 ≢ file.Values) (third, more) [] no_values (All-nil (λ (g : Contents). g.0 ≢ file.Values))),
-  (All-cons (λ (g : Contents). g.0 ≢ file.Mask) (third, more) [] no_mask (All-nil (λ (g : Contents). g.0 ≢ file.Mask)),
-  (All-nil (λ (g : Contents). g.0 ≢ third), tt)),
+  (
+    All-cons (λ (g : Contents). g.0 ≢ file.Mask) (third, more) [] no_mask (All-nil (λ (g : Contents). g.0 ≢ file.Mask)),
+    (All-nil (λ (g : Contents). g.0 ≢ third), tt),
+  ),
 )
 
 apart-by_type : (ty : ColType) (cells : List Cell) → KindsApart (files_by_type ty cells)
@@ -174,13 +176,13 @@ columns-apart dir part col (column ∷ columns) low named distinct =
     let own : IsColumnName column.name = All-head (λ (c : Column). IsColumnName c.name) column columns named in
     let others = All-tail (λ (c : Column). IsColumnName c.name) column columns named in
     let across : All (λ x. All (λ y. y.name ≢ x.name) later) first
-        = All-weaker (λ (x : File). IsOfColumn (λ name. name ≡ column.name) dir part.number x.name) (λ x. All (λ y. y.name ≢ x.name) later)
-        (λ x hx.
-        All-weaker (λ (y : File). IsOfColumn (λ name. column.name ≢ name) dir part.number y.name) (λ y. y.name ≢ x.name)
-        (λ y hy. other_column dir part.number column.name x.name y.name low hx hy) later
-        (columns-written (λ name. column.name ≢ name) dir part (col + 1) columns others
-        (AllPairs-head (λ (a b : Column). a.name ≢ b.name) column columns distinct)))
-        first (column-written (λ name. name ≡ column.name) dir part.number column cells own refl) in
+    = All-weaker (λ (x : File). IsOfColumn (λ name. name ≡ column.name) dir part.number x.name) (λ x. All (λ y. y.name ≢ x.name) later)
+    (λ x hx.
+    All-weaker (λ (y : File). IsOfColumn (λ name. column.name ≢ name) dir part.number y.name) (λ y. y.name ≢ x.name)
+    (λ y hy. other_column dir part.number column.name x.name y.name low hx hy) later
+    (columns-written (λ name. column.name ≢ name) dir part (col + 1) columns others
+    (AllPairs-head (λ (a b : Column). a.name ≢ b.name) column columns distinct)))
+    first (column-written (λ name. name ≡ column.name) dir part.number column cells own refl) in
     AreApart-append first later (column-apart dir part.number column cells low own)
     (columns-apart dir part (col + 1) columns low others (AllPairs-tail (λ (a b : Column). a.name ≢ b.name) column columns distinct)) across
 
@@ -241,7 +243,7 @@ parts-written P dir schema (part ∷ parts) valid holds =
 other_part : (dir : List ℕ) (own : ℕ) (x y : List ℕ) → own < 4096 → IsWritten dir own x → IsOfPart (λ number. (number < 4096) × (own ≢ number)) dir y → y ≢ x
 other_part dir own x y low hx hy e =
     let same = same_file dir dir hy.number own hy.written.column hx.column hy.written.kind hx.kind hy.holds.0 low hy.written.called hx.called
-        (sym hy.written.is ∙ e ∙ hx.is) in
+    (sym hy.written.is ∙ e ∙ hx.is) in
     hy.holds.1 (sym same.1)
 
 pub parts-apart : (dir : List ℕ) (schema : List Column) (parts : List Partition) → IsSchema schema → All (λ part. part.number < 4096) parts
@@ -253,7 +255,7 @@ parts-apart dir schema (part ∷ parts) valid low distinct =
     let own : part.number < 4096 = All-head (λ (p : Partition). p.number < 4096) part parts low in
     let others = All-tail (λ (p : Partition). p.number < 4096) part parts low in
     let numbers : All (λ p. (p.number < 4096) × (part.number ≢ p.number)) parts
-        = λ k d within. (others k d within, AllPairs-head (λ (a b : Partition). a.number ≢ b.number) part parts distinct k d within) in
+    = λ k d within. (others k d within, AllPairs-head (λ (a b : Partition). a.number ≢ b.number) part parts distinct k d within) in
     AreApart-append first later (part-apart dir schema part valid own)
     (parts-apart dir schema parts valid others (AllPairs-tail (λ (a b : Partition). a.number ≢ b.number) part parts distinct))
     (All-weaker (λ (x : File). IsWritten dir part.number x.name) (λ x. All (λ y. y.name ≢ x.name) later)

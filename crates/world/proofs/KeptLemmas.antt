@@ -1,9 +1,9 @@
 -- What stands for a dataset or a world still does while the files that matter to it stay.
-use Rattle.std.proofs.Common.{◌≡◌, ◌≢◌, ◌⊎◌, inl, inr, ◌<◌, ◌≤◌, ℕ, List, [], ◌∷◌, ◌++◌, All, length, map, Option, Some, None, refl, sym, ap, ◌∙◌, subst, arith}
+use Rattle.std.proofs.Common.{◌≡◌, ◌≢◌, ◌⊎◌, inl, inr, ◌<◌, ◌≤◌, ℕ, List, ◌++◌, All, length, map, Option, Some, None, sym, ap, ◌∙◌, subst, arith}
 use lib.Chars.{codes}
 use Rattle.std.specs.FinMap.{insert}
 use Rattle.std.proofs.lemmas.List.{get_or-map, length-map}
-use Rattle.std.proofs.lemmas.List.Elements.{All-append, All-weaker}
+use Rattle.std.proofs.lemmas.List.Elements.{All-weaker}
 use Rattle.std.proofs.Common.{get_or}
 use Rattle.fb_outside.specs.Files.{Files, file_at}
 use Rattle.fb_outside.specs.Names.{IsPath}
@@ -20,7 +20,7 @@ use Rattle.part_meta.specs.FileNames.{IsCalled, catalog_name, file_name, index_n
 use Rattle.part_meta.proofs.FileNameLemmas.{catalog_is_no_csv, catalog_name-injective, file_is_no_catalog, file_is_no_csv, same_file}
 use Rattle.world.specs.World.{Content, IsContent, Partition, World, catalog_data, content_at, with_content}
 use Rattle.world.specs.PartFiles.{part_files}
-use Rattle.world.specs.Stands.{IsFree, IsInputName, IsUnindexed, PartRests, Rests, Stands}
+use Rattle.world.specs.Stands.{IsFree, IsUnindexed, PartRests, Rests, Stands}
 use Rattle.world.proofs.FileLemmas.{IsOfPart, IsWritten, part-written}
 use Rattle.world.proofs.MapLemmas.{get-insert_other, get-insert_same, same_or_apart}
 
@@ -59,7 +59,7 @@ module _ (old new : Files) (dir : List ℕ) where
   parts-kept next schema parts valid few below kept h k d within =
       let inside : k < length (map (λ (part : Partition). part.number) parts) = omega (arith, length-map parts (λ (part : Partition). part.number)) in
       let number : (get_or parts k d).number < next
-          = subst (λ (n : ℕ). n < next) (get_or-map (λ (part : Partition). part.number) parts k d 0 within) (below k 0 inside) in
+      = subst (λ (n : ℕ). n < next) (get_or-map (λ (part : Partition). part.number) parts k d 0 within) (below k 0 inside) in
       PartRests-kept next schema (get_or parts k d) valid few number kept (h k d within)
 
   pub Rests-kept : (content : Content) → IsContent content → file_at new (catalog_name dir) ≡ file_at old (catalog_name dir)
@@ -102,7 +102,7 @@ new-no_old : (path : List ℕ) (next : ℕ) (name q : List ℕ) (number : ℕ) (
     → (q ≡ path → number < next) → IsNewName path next name → name ≢ file_name q number column kind
 new-no_old path next name q number column kind low called older h e =
     let same = same_file path q h.number number h.written.column column h.written.kind kind h.holds.1 low
-        h.written.called called (sym h.written.is ∙ e) in
+    h.written.called called (sym h.written.is ∙ e) in
     let before : number < next = older (sym same.0) in
     let is : h.number ≡ number = same.1 in
     let new : next ≤ h.number = h.holds.0 in
@@ -194,7 +194,7 @@ module _ (files : Files) (world : World) (path : List ℕ) (content : Content) w
   here : (q : List ℕ) (found : Content) → q ≡ path → content_at (with_content world path content) q ≡ Some found → found ≡ content
   here q found same there =
       let at : content_at (with_content world path content) path ≡ Some found
-          = subst (λ (p : List ℕ). content_at (with_content world path content) p ≡ Some found) same there in
+      = subst (λ (p : List ℕ). content_at (with_content world path content) p ≡ Some found) same there in
       let is : content_at (with_content world path content) path ≡ Some content = get-insert_same world.datasets path content in
       cc
 
@@ -221,7 +221,7 @@ module _ (files : Files) (world : World) (path : List ℕ) (content : Content) w
       → IsFree put q
   free-at h q (inl same) proper absent =
       let at : content_at (with_content world path content) path ≡ None
-          = subst (λ (p : List ℕ). content_at (with_content world path content) p ≡ None) same absent in
+      = subst (λ (p : List ℕ). content_at (with_content world path content) p ≡ None) same absent in
       let is : content_at (with_content world path content) path ≡ Some content = get-insert_same world.datasets path content in
       cc
   free-at h q (inr apart) proper absent =

@@ -1,5 +1,5 @@
 -- The parts of a load: their number, their records and their sizes.
-use Rattle.std.proofs.Common.{◌≡◌, ◌≢◌, ◌+◌, ◌-◌, ◌*◌, ◌/◌, ◌%◌, ◌<◌, ◌≤◌, min, ℕ, zero, suc, List, [], ◌∷◌, ◌++◌, All, length, map, take, drop, refl, sym, ap, ◌∙◌, subst, arith, length-take, length-drop}
+use Rattle.std.proofs.Common.{◌≡◌, ◌+◌, ◌-◌, ◌*◌, ◌/◌, ◌%◌, ◌<◌, ◌≤◌, min, ℕ, zero, suc, List, ◌∷◌, ◌++◌, All, length, map, take, drop, refl, sym, ap, ◌∙◌, subst, arith, length-take, length-drop}
 use Rattle.std.proofs.Math.Nat.{mul-le-mul_left, zero-div}
 use Rattle.std.proofs.Math.Seq.{take-add}
 use Rattle.std.specs.List.{AllPairs, flat_map, range_with_len}
@@ -55,10 +55,10 @@ pieces-from per_part records a zero =
 pieces-from per_part records a (suc n) =
     let rest = drop (a * per_part) records in
     let next : drop ((a + 1) * per_part) records ≡ drop per_part rest
-        = ap (λ (k : ℕ). drop k records) (let e : (a + 1) * per_part ≡ a * per_part + per_part = omega arith in e)
-        ∙ sym (drop-drop per_part (a * per_part) records) in
+    = ap (λ (k : ℕ). drop k records) (let e : (a + 1) * per_part ≡ a * per_part + per_part = omega arith in e)
+    ∙ sym (drop-drop per_part (a * per_part) records) in
     let tail : flat_map (piece per_part records) (range_with_len (a + 1) n) ≡ take (n * per_part) (drop per_part rest)
-        = pieces-from per_part records (a + 1) n ∙ ap (take (n * per_part)) next in
+    = pieces-from per_part records (a + 1) n ∙ ap (take (n * per_part)) next in
     let size : per_part + n * per_part ≡ suc n * per_part = omega arith in
     ap (λ (xs : List (List Cell)). take per_part rest ++ xs) tail
     ∙ sym (take-add per_part (n * per_part) rest)
@@ -80,7 +80,7 @@ pub piece-size : (per_part : ℕ) (records : List (List Cell)) (place : ℕ) →
 piece-size per_part records place some there =
     let begins : place * per_part < length records = part-begins per_part (length records) place some there in
     let size : length (piece per_part records place) ≡ min per_part (length records - place * per_part)
-        = length-take per_part (drop (place * per_part) records) ∙ ap (min per_part) (length-drop (place * per_part) records) in
+    = length-take per_part (drop (place * per_part) records) ∙ ap (min per_part) (length-drop (place * per_part) records) in
     (omega arith, omega arith)
 
 -- what holds of each part at its place

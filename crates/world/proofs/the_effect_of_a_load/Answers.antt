@@ -1,6 +1,4 @@
-use Rattle.std.proofs.Common.{◌≡◌, ℕ, List, [], ◌∷◌, Option, Some, None, option_map, refl, sym, ap, ◌∙◌}
-use Rattle.fb_types.specs.declared.cells.Cell.{Cell}
-use Rattle.fb_types.specs.declared.schemas.Column.{Column}
+use Rattle.std.proofs.Common.{[], ◌∷◌, Option, Some, option_map, ap, ◌∙◌}
 use Rattle.world.specs.World.{Content, content_at, records_of}
 use Rattle.world.specs.Effects.{empty_content, extended, found_or_empty}
 use Rattle.world.proofs.MapLemmas.{get-insert_other, get-insert_same}

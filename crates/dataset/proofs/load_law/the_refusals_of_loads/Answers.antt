@@ -1,5 +1,4 @@
-use Rattle.std.proofs.Common.{refl}
-use Rattle.dataset.proofs.LoadLemmas.{differ_first, no_difference, refused-by_columns, refused-by_counts, same_schema}
+use Rattle.dataset.proofs.LoadLemmas.{differ_first, no_difference, refused-by_columns, refusal-none, refused-by_counts, same_schema}
 use Rattle.dataset.proofs.load_law.the_refusals_of_loads.Goals as goal
 
 pub returns-clause-same : goal.returns-clause-same
@@ -16,3 +15,6 @@ returns-clause-columns c = refused-by_columns
 
 pub returns-clause-counts : goal.returns-clause-counts
 returns-clause-counts c = refused-by_counts
+
+pub returns-clause-taken : goal.returns-clause-taken
+returns-clause-taken c = refusal-none

@@ -1,4 +1,5 @@
 pub mod Opened
 pub mod Damage
 pub mod Appended
+pub mod Found
 pub mod Loads

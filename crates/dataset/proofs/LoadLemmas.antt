@@ -19,10 +19,11 @@ use Rattle.fb_types.specs.SchemaText.{type_named}
 use Rattle.fb_types.specs.Types.{type_name}
 use Rattle.fb_types.proofs.ItemFacts.{type_named-type_name}
 use Rattle.part_meta.specs.declared.catalog.Catalog.{Catalog}
+use Rattle.part_meta.specs.declared.part.PartMeta.{PartMeta}
 use Rattle.part_meta.specs.CatalogText.{catalog_text}
 use Rattle.part_meta.specs.FileNames.{IsFileOf, catalog_name}
 use Rattle.world.specs.World.{Content, IsContent, Partition, World, catalog_data, content_at}
-use Rattle.world.specs.PartFiles.{part_files}
+use Rattle.world.specs.PartFiles.{part_data, part_files}
 use Rattle.world.specs.Stands.{IsUnindexed, PartRests, Stands, StandsFor}
 use Rattle.world.specs.Effects.{Loads, after_one, extended, found_or_empty, new_part, new_parts, part_count}
 use Rattle.world.proofs.PieceLemmas.{All-new_parts}
@@ -30,7 +31,9 @@ use Rattle.world.proofs.ContentLemmas.{IsContent-extended, numbers-extended}
 use Rattle.world.proofs.FileLemmas.{parts-apart, parts-written}
 use Rattle.world.proofs.KeptLemmas.{IsNewName, IsNewNumber, IsReady, KeepsParts, Stands-new, Stands-put, keeps-others, parts-kept, unindexed-kept}
 use Rattle.dataset.specs.Appended.{SchemaDiffers, append_files, first_difference, grown_catalog, is_same_column, refusal, refusal_by, too_many}
-use Rattle.dataset.specs.Loads.{DifferFirst, IsLoad, load_files}
+use Rattle.dataset.specs.Found.{dataset_in}
+use Rattle.dataset.specs.Opened.{catalog_in}
+use Rattle.dataset.specs.Loads.{DifferFirst, IsLoad, catalog_before, load_files}
 
 -- ---- what isn't refused
 
@@ -247,6 +250,26 @@ news-there files path schema next per_part records valid few =
     (numbers-differ next per_part records)))
 
 -- ---- the dataset before
+
+numbers-of_parts : (schema : List Column) (parts : List Partition)
+    → map (λ part. part.number) parts ≡ map (λ (part : PartMeta). part.number) (map (part_data schema) parts)
+numbers-of_parts schema [] = refl
+numbers-of_parts schema (part ∷ parts) = ap (λ (numbers : List ℕ). part.number ∷ numbers) (numbers-of_parts schema parts)
+
+abbrev pub catalog_of : List Column → ℕ → List ℕ → Catalog
+catalog_of schema next parts = record { schema = schema; next = next; parts = parts }
+
+pub catalog_in-dataset_in : (path : List ℕ) (content : Content) → catalog_data content ≡ catalog_in (dataset_in path content)
+catalog_in-dataset_in path content = ap (catalog_of content.schema content.next) (numbers-of_parts content.schema content.parts)
+
+pub catalog_before-there : (world : World) (path : List ℕ) (schema : List Column) (content : Content) → content_at world path ≡ Some content
+    → catalog_before world path schema ≡ catalog_in (dataset_in path content)
+catalog_before-there world path schema content there =
+    ap (λ (o : Option Content). catalog_data (found_or_empty schema o)) there ∙ catalog_in-dataset_in path content
+
+pub catalog_before-absent : (world : World) (path : List ℕ) (schema : List Column) → content_at world path ≡ None
+    → catalog_before world path schema ≡ catalog_of schema 0 []
+catalog_before-absent world path schema absent = ap (λ (o : Option Content). catalog_data (found_or_empty schema o)) absent
 
 -- what is known of a path's dataset, or of the path without one
 pub record IsBefore (files : Files) (world : World) (path : List ℕ) (content : Content) : Type 0 where

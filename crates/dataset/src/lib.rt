@@ -11,7 +11,7 @@ pub use appending::append;
 pub use content::{Dataset, create};
 pub use fault::{AppendFault, DamageKind, OpenFault};
 pub use load_law::{
-    the_files_of_a_load, the_names_of_a_load, the_refusals_of_loads, the_store_after_a_load,
-    the_world_after_a_load,
+    the_catalog_before_a_load, the_files_of_a_load, the_names_of_a_load, the_refusals_of_loads,
+    the_store_after_a_load, the_world_after_a_load,
 };
 pub use opening::open_dataset;

@@ -22,7 +22,8 @@ ghost use Rattle.world.specs.Effects.{Effect, Loads, after, after_one, empty_con
 pub fn files_without_datasets()
     ensures none { Stands empty (no_datasets empty) }
     ensures free { (files inputs : Files) → ((path : List ℕ) → IsPath path → IsFree files path)
-        → ((name : List ℕ) → IsInputName name → file_at files name ≡ get inputs name) → Stands files (no_datasets inputs) }
+        → ((name : List ℕ) → IsInputName name → file_at files name ≡ get inputs name)
+        → Stands files (no_datasets inputs) }
 {}
 
 /// The names and the bytes of the files of columns, in their order.
@@ -33,7 +34,8 @@ pub fn the_files_of_columns()
         ∷ record { name = codes "t/p0000/s.msk"; bytes = 1 ∷ 0 ∷ 0 ∷ 0 ∷ 0 ∷ 0 ∷ 0 ∷ 0 ∷ 0 ∷ 0 ∷ 0 ∷ 0 ∷ [] } ∷ [] }
 
     // The numbers -1 and 258 about a null; 5 is the mask 101.
-    ensures numbers { column_files (codes "t") 12 (record { name = codes "a"; ty = Int }) (Whole (negsuc 0) ∷ Null ∷ Whole (pos 258) ∷ [])
+    ensures numbers { column_files (codes "t") 12 (record { name = codes "a"; ty = Int })
+        (Whole (negsuc 0) ∷ Null ∷ Whole (pos 258) ∷ [])
         ≡ record { name = codes "t/p0012/a"; bytes = 255 ∷ 255 ∷ 255 ∷ 255 ∷ 0 ∷ 0 ∷ 0 ∷ 0 ∷ 2 ∷ 1 ∷ 0 ∷ 0 ∷ [] }
         ∷ record { name = codes "t/p0012/a.msk"; bytes = 3 ∷ 0 ∷ 0 ∷ 0 ∷ 0 ∷ 0 ∷ 0 ∷ 0 ∷ 5 ∷ 0 ∷ 0 ∷ 0 ∷ [] } ∷ [] }
 
@@ -45,7 +47,8 @@ pub fn the_files_of_columns()
         ∷ record { name = codes "t/p0000/c.dic"; bytes = 2 ∷ 0 ∷ 0 ∷ 0 ∷ 1 ∷ 0 ∷ 120 ∷ 3 ∷ 0 ∷ 97 ∷ 44 ∷ 98 ∷ [] } ∷ [] }
 
     // The texts `ab`, none and `c`, which begin at 0, 2 and 2 and end at 3.
-    ensures texts { column_files (codes "t") 0 (record { name = codes "w"; ty = Text }) (Word (codes "ab") ∷ Null ∷ Word (codes "c") ∷ [])
+    ensures texts { column_files (codes "t") 0 (record { name = codes "w"; ty = Text })
+        (Word (codes "ab") ∷ Null ∷ Word (codes "c") ∷ [])
         ≡ record { name = codes "t/p0000/w"; bytes = codes "abc" }
         ∷ record { name = codes "t/p0000/w.msk"; bytes = 3 ∷ 0 ∷ 0 ∷ 0 ∷ 0 ∷ 0 ∷ 0 ∷ 0 ∷ 5 ∷ 0 ∷ 0 ∷ 0 ∷ [] }
         ∷ record {
@@ -57,7 +60,8 @@ pub fn the_files_of_columns()
 
 /// The files of a part of two columns and one record: column by column, each with its own cells, and then the part's text.
 pub fn the_files_of_a_part()
-    ensures { part_files (codes "t") (record { name = codes "w"; ty = Text } ∷ record { name = codes "s"; ty = Short } ∷ [])
+    ensures { part_files (codes "t")
+        (record { name = codes "w"; ty = Text } ∷ record { name = codes "s"; ty = Short } ∷ [])
         (record { number = 7; records = (Word (codes "ab") ∷ Whole (pos 5) ∷ []) ∷ [] })
         ≡ record { name = codes "t/p0007/w"; bytes = codes "ab" }
         ∷ record { name = codes "t/p0007/w.msk"; bytes = 1 ∷ 0 ∷ 0 ∷ 0 ∷ 0 ∷ 0 ∷ 0 ∷ 0 ∷ 1 ∷ 0 ∷ 0 ∷ 0 ∷ [] }
@@ -75,17 +79,20 @@ pub fn the_parts_of_a_load()
     ensures all { (next per_part : ℕ) (records : List (List Cell)) → 1 ≤ per_part
         → flat_map (λ part. part.records) (new_parts next per_part records) ≡ records }
     ensures each { (next per_part : ℕ) (records : List (List Cell)) → 1 ≤ per_part
-        → All (λ part. (1 ≤ length part.records) × (length part.records ≤ per_part)) (new_parts next per_part records) }
+        → All (λ part. (1 ≤ length part.records) × (length part.records ≤ per_part))
+        (new_parts next per_part records) }
 
     // All but the last are full.
-    ensures full { (per_part place : ℕ) (records : List (List Cell)) → (place + 1) * per_part ≤ length records
+    ensures full { (per_part place : ℕ) (records : List (List Cell))
+        → (place + 1) * per_part ≤ length records
         → length (piece per_part records place) ≡ per_part }
 {}
 
 /// What a load makes of the dataset at its path, and that it leaves every other.
 pub fn the_effect_of_a_load()
     // Five records, with two in a part.
-    ensures grown { (world : World) (path : List ℕ) (schema columns : List Column) (parts : List Partition) (a b c d e : List Cell)
+    ensures grown { (world : World) (path : List ℕ) (schema columns : List Column)
+        (parts : List Partition) (a b c d e : List Cell)
         → content_at world path ≡ Some (record { schema = columns; next = 3; parts = parts })
         → content_at (after_one world (Loads path schema 2 (a ∷ b ∷ c ∷ d ∷ e ∷ []))) path
         ≡ Some (record {
@@ -96,28 +103,38 @@ pub fn the_effect_of_a_load()
         }) }
 
     // No records, where no dataset was.
-    ensures made { (world : World) (path : List ℕ) (schema : List Column) (per_part : ℕ) → 1 ≤ per_part → content_at world path ≡ None
-        → content_at (after_one world (Loads path schema per_part [])) path ≡ Some (empty_content schema) }
-    ensures records { (world : World) (path : List ℕ) (schema : List Column) (per_part : ℕ) (records : List (List Cell)) → 1 ≤ per_part
-        → option_map records_of (content_at (after_one world (Loads path schema per_part records)) path)
+    ensures made { (world : World) (path : List ℕ) (schema : List Column) (per_part : ℕ)
+        → 1 ≤ per_part → content_at world path ≡ None
+        → content_at (after_one world (Loads path schema per_part [])) path
+        ≡ Some (empty_content schema) }
+    ensures records { (world : World) (path : List ℕ) (schema : List Column) (per_part : ℕ)
+        (records : List (List Cell)) → 1 ≤ per_part
+        → option_map records_of
+        (content_at (after_one world (Loads path schema per_part records)) path)
         ≡ Some (records_of (found_or_empty schema (content_at world path)) ++ records) }
-    ensures others { (world : World) (path other : List ℕ) (schema : List Column) (per_part : ℕ) (records : List (List Cell))
-        → other ≢ path → content_at (after_one world (Loads path schema per_part records)) other ≡ content_at world other }
-    ensures inputs { (world : World) (path : List ℕ) (schema : List Column) (per_part : ℕ) (records : List (List Cell))
+    ensures others { (world : World) (path other : List ℕ) (schema : List Column) (per_part : ℕ)
+        (records : List (List Cell))
+        → other ≢ path → content_at (after_one world (Loads path schema per_part records)) other
+        ≡ content_at world other }
+    ensures inputs { (world : World) (path : List ℕ) (schema : List Column) (per_part : ℕ)
+        (records : List (List Cell))
         → (after_one world (Loads path schema per_part records)).inputs ≡ world.inputs }
 {}
 
 /// A dataset that grows by a load keeps what every dataset is, and has its old records and then the load's.
 pub fn the_content_after_a_load()
-    ensures valid { (content : Content) (per_part : ℕ) (records : List (List Cell)) → IsContent content → 1 ≤ per_part → per_part ≤ 4194304
+    ensures valid { (content : Content) (per_part : ℕ) (records : List (List Cell))
+        → IsContent content → 1 ≤ per_part → per_part ≤ 4194304
         → All (λ cells. RecordFits cells content.schema) records
         → content.next + part_count per_part (length records) ≤ 4096
-        → length content.parts + part_count per_part (length records) ≤ 1024 → IsContent (extended content per_part records) }
+        → length content.parts + part_count per_part (length records) ≤ 1024
+        → IsContent (extended content per_part records) }
     ensures records { (content : Content) (per_part : ℕ) (records : List (List Cell)) → 1 ≤ per_part
         → records_of (extended content per_part records) ≡ records_of content ++ records }
 {}
 
 /// The world after effects is that after the first ones and then the others.
 pub fn the_order_of_effects()
-    ensures { (world : World) (effects more : List Effect) → after world (effects ++ more) ≡ after (after world effects) more }
+    ensures { (world : World) (effects more : List Effect) → after world (effects ++ more)
+        ≡ after (after world effects) more }
 {}

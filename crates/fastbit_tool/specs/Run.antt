@@ -55,9 +55,13 @@ IsOfAsked (Of command) input name = IsOfCommand command name
 
 -- ---- what it comes to over any files, and what is printed
 
+abbrev pub SessionComesBy : Bool → Outcome → Type 0
+SessionComesBy true reply = reply ≡ refused too_long
+SessionComesBy false reply = reply.status ≡ Done
+
 -- a session is refused exactly where its input is too long
 abbrev pub SessionComesTo : Option (List ℕ) → Outcome → Type 0
-SessionComesTo left reply = ForSomeInput left (λ input. if is_long input then reply ≡ refused too_long else reply.status ≡ Done)
+SessionComesTo left reply = ForSomeInput left (λ input. SessionComesBy (is_long input) reply)
 
 abbrev pub AskedComesTo : Asked → Option (List ℕ) → Option Files → Outcome → Type 0
 AskedComesTo OfSession left files reply = SessionComesTo left reply

@@ -1,5 +1,5 @@
 -- A session: the lines of its input, run one after another.
-use Rattle.std.specs.Prelude.{◌≡◌, ◌⊎◌, ⊤, ℕ, ◌+◌, ◌==◌, nat_le, Bool, true, false, is_some, List, [], ◌∷◌, ◌++◌, length, Option, Some, None, if◌then◌else◌}
+use Rattle.std.specs.Prelude.{◌≡◌, ◌⊎◌, ⊤, ℕ, ◌+◌, ◌==◌, nat_le, Bool, true, false, is_some, List, [], ◌∷◌, ◌++◌, length, drop, Option, Some, None, if◌then◌else◌}
 use Rattle.std.specs.List.{slice_split, list_any}
 use Rattle.fb_outside.specs.Files.{Files, ChangesAmong, SameFiles}
 use Rattle.fb_outside.specs.Streams.{ForSomeInput, IsAtEnd}
@@ -8,22 +8,27 @@ use Rattle.command_words.specs.declared.Job.TheVariants.{Ardea, Gen, Ibis, Sessi
 use Rattle.command_words.specs.Lines.{words_of}
 use Rattle.command_words.specs.Words.{request_of}
 use Rattle.world.specs.World.{World}
+use Rattle.world.specs.Stands.{StandsFor}
 use Rattle.world.specs.Effects.{after}
 use Rattle.statuses.specs.declared.LimitKind.TheVariants as limit
 use Rattle.statuses.specs.declared.Status.{Status}
-use Rattle.statuses.specs.declared.Status.TheVariants.{Done, Limit}
+use Rattle.statuses.specs.declared.Status.TheVariants.{Done, Limit, OutOfMemory}
 use Rattle.statuses.specs.Outcome.{Outcome, refused}
 use Rattle.commands.specs.Command.{Command, Unknown, command_of, command_outcome}
 use Rattle.commands.specs.Causes.{ComesTo, HasCauseIn, Says}
-use Rattle.commands.specs.Effects.{IsOfCommand}
+use Rattle.commands.specs.Effects.{IsOfCommand, LeavesAfter}
 use Rattle.commands.specs.Order.{Yields}
-use Rattle.commands.specs.Reply.{is_fault}
+use Rattle.commands.specs.Reply.{Replies, is_fault}
 
 -- ---- the commands of an input
 
 -- cut at line feeds (10)
 abbrev pub lines_of : List ℕ → List (List ℕ)
 lines_of input = slice_split (λ b. b == 10) input
+
+-- those that begin at a place or behind it; none behind the end
+abbrev pub lines_from : List ℕ → ℕ → List (List ℕ)
+lines_from input at = if nat_le at (length input) then lines_of (drop at input) else []
 
 -- a session has loads of files and tasks on datasets; every other request is refused there as wrong words are
 abbrev pub in_session : Option Job → Option Job
@@ -84,13 +89,21 @@ session_outcome input world = if is_long input then refused too_long else lines_
 -- A command keeps its own clauses. `left` is what the source has left, `old` and `new` are the files before and after,
 -- `before` and `now` what the sink had written.
 pub record CommandRuns (command : Command) (left : Option (List ℕ)) (old new : Option Files) (before now : Option (List ℕ)) (status : Status) : Type 0 where
+  pub replies : (world : World) → StandsFor old world → Replies (command_outcome command [] world) status before now
+  pub leaves : (world : World) → StandsFor old world → LeavesAfter (command_outcome command [] world).effects world status new
   pub causes : HasCauseIn (ComesTo command left old) status
   pub prints : Says (ComesTo command left old) status before now
   pub kept : ChangesAmong (IsOfCommand command) old new
   pub order : Yields command left status
 
+-- a line that is skipped does nothing
+pub record Skips (old new : Option Files) (before now : Option (List ℕ)) (status : Status) : Type 0 where
+  pub files : SameFiles old new
+  pub written : now ≡ before
+  pub ends : (status ≡ Done) ⊎ (status ≡ OutOfMemory)
+
 abbrev pub LineRunsBy : Option Command → Option (List ℕ) → Option Files → Option Files → Option (List ℕ) → Option (List ℕ) → Status → Type 0
-LineRunsBy None left old new before now status = SameFiles old new × (now ≡ before) × (status ≡ Done)
+LineRunsBy None left old new before now status = Skips old new before now status
 LineRunsBy (Some command) left old new before now status = CommandRuns command left old new before now status
 
 abbrev pub LineRuns : List ℕ → Option (List ℕ) → Option Files → Option Files → Option (List ℕ) → Option (List ℕ) → Status → Type 0

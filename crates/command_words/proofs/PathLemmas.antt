@@ -5,7 +5,7 @@ use Rattle.fb_outside.specs.Names.{IsPath, IsFileName}
 use Rattle.fb_outside.specs.NameTests.{are_pieces}
 use Rattle.fb_outside.proofs.JoinLemmas.{IsName-more}
 use Rattle.fb_outside.proofs.NameLemmas.{IsName-from_test, test-from_IsName}
-use Rattle.command_words.specs.Words.{begins_with_dash, is_dir, is_path}
+use Rattle.command_words.specs.Words.{is_path}
 
 both : (a b : Bool) → (a && b) ≡ true → (a ≡ true) × (b ≡ true)
 both true b h = (refl, h)
@@ -31,23 +31,3 @@ test_by text false h not_path = refl
 -- what is no path fails the test
 pub no_test : (text : List ℕ) → (IsPath text → ⊥) → is_path text ≡ false
 no_test text not_path = test_by text (is_path text) refl not_path
-
--- what a word that is no option gives as a path
-chosen : (word : List ℕ) (b : Bool) → begins_with_dash word ≡ false → is_path word ≡ b
-    → (if is_dir word then Some word else None) ≡ (if b then Some word else None)
-chosen word b plain test = rw (plain, test) refl
-
-pub no_name : (word : List ℕ) (name : Option (List ℕ)) → begins_with_dash word ≡ false → name ≡ None
-    → (IsFileName word → IsSome name) → None ≡ (if is_dir word then Some word else None)
-no_name word name plain none named =
-    sym (chosen word false plain (no_test word (λ path. let some : IsSome name = named (IsFileName-from_path word path) in let off : is_some name ≡ false = ap is_some none in cc)))
-
-pub a_path : (word name : List ℕ) → begins_with_dash word ≡ false → name ≡ word → IsPath name
-    → Some name ≡ (if is_dir word then Some word else None)
-a_path word name plain same path =
-    ap Some same ∙ sym (chosen word true plain (test-from_IsPath word (subst IsPath same path)))
-
-pub no_path : (word name : List ℕ) → begins_with_dash word ≡ false → name ≡ word → (IsPath name → false ≡ true)
-    → None ≡ (if is_dir word then Some word else None)
-no_path word name plain same not_path =
-    sym (chosen word false plain (no_test word (λ path. let bad : false ≡ true = not_path (subst IsPath (sym same) path) in cc)))

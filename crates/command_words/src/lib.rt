@@ -8,12 +8,12 @@ ghost use Rattle.command_words.specs.Valid.{IsValid};
 mod commands;
 mod given;
 mod lines;
-
-pub use lines::line_words;
+mod values;
 
 use crate::commands::job_of;
 use fb_outside::FileName;
 use fb_types::Label;
+pub use lines::line_words;
 use std::alloc::{AllocError, Global};
 
 /// A load of records into the dataset at a path, under the schema that a text spells.

@@ -5,7 +5,7 @@ use Rattle.fb_outside.specs.Names.{IsPath, IsFileName}
 use Rattle.fb_outside.specs.NameTests.{are_pieces}
 use Rattle.fb_outside.proofs.JoinLemmas.{IsName-more}
 use Rattle.fb_outside.proofs.NameLemmas.{IsName-from_test, test-from_IsName}
-use Rattle.command_words.specs.Words.{is_path}
+use Rattle.command_words.specs.Words.{is_path, path_of}
 
 both : (a b : Bool) → (a && b) ≡ true → (a ≡ true) × (b ≡ true)
 both true b h = (refl, h)
@@ -31,3 +31,17 @@ test_by text false h not_path = refl
 -- what is no path fails the test
 pub no_test : (text : List ℕ) → (IsPath text → ⊥) → is_path text ≡ false
 no_test text not_path = test_by text (is_path text) refl not_path
+
+-- what a word gives as a path, by the name that it spells
+pub no_name : (word : List ℕ) (name : Option (List ℕ)) → name ≡ None → (IsFileName word → IsSome name) → None ≡ path_of word
+no_name word name none named =
+    rw (no_test word (λ path. let some : IsSome name = named (IsFileName-from_path word path) in let off : is_some name ≡ false = ap is_some none in cc)) refl
+
+pub a_path : (word name : List ℕ) → name ≡ word → IsPath name → Some name ≡ path_of word
+a_path word name same path =
+    let test : is_path word ≡ true = test-from_IsPath word (subst IsPath same path) in
+    rw test (ap Some same)
+
+pub no_path : (word name : List ℕ) → name ≡ word → (IsPath name → false ≡ true) → None ≡ path_of word
+no_path word name same not_path =
+    rw (no_test word (λ path. let bad : false ≡ true = not_path (subst IsPath (sym same) path) in cc)) refl

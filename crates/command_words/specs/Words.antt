@@ -56,10 +56,14 @@ load_of (Some dir) (Some schema) (Some file) (Some per_part) (Some skip) =
     Some (Ardea (record { dir = dir; schema = schema; file = file; per_part = per_part; skip = skip }))
 load_of dir schema file per_part skip = None
 
+-- how many of the letters of tasks are there
+unfoldable pub task_count : Given → ℕ
+task_count given = count_by (λ letter. has given letter) (codes "qebcl")
+
 -- `-q` (113), `-e` (101), `-b` (98), `-c` (99), `-l` (108): exactly one of them; `-v` (118) only with `-q`, `-k` (107) only with `-b`
 abbrev pub is_one_task : Given → Bool
 is_one_task given =
-    (count_by (λ letter. has given letter) (codes "qebcl") == 1)
+    (task_count given == 1)
     && (not (has given 118) || has given 113)
     && (not (has given 107) || has given 98)
 

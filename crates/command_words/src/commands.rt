@@ -1,6 +1,6 @@
 //! The commands, each by the rule of its words.
 ghost use Rattle.std.specs.Prelude.{◌≡◌, ◌∷◌, IfOk, IfSome, map, string_bytes};
-ghost use Rattle.command_words.specs.Words.{ardea_by, dir_of, file_of, first_task, gen_by, ibis_by, is_one_task, load_of, per_part_of, request_of, schema_of, session_by, skip_of, task_of};
+ghost use Rattle.command_words.specs.Words.{ardea_by, dir_of, file_of, first_task, gen_by, ibis_by, is_one_task, load_of, per_part_of, request_of, schema_of, session_by, skip_of, task_count, task_of};
 ghost use Rattle.command_words.specs.Valid.{IsValid, IsValidTask};
 
 use crate::given::{Given, read_given};
@@ -9,6 +9,7 @@ use crate::{Job, Load, Task};
 use std::alloc::{AllocError, Global};
 
 /// The request of a command and the words behind it.
+#[tactic(auto, unfolding(crate::specs::Words::request_of))]
 pub(crate) fn job_of(
     alloc: Global,
     command: &str,
@@ -32,6 +33,7 @@ pub(crate) fn job_of(
     Ok(None)
 }
 
+#[tactic(auto, unfolding(crate::specs::Words::ardea_by))]
 fn ardea(alloc: Global, words: &[String]) -> Result<Option<Job>, AllocError>
     ensures job { IfOk result (λ found. found ≡ ardea_by (map string_bytes words.now)) }
     ensures valid { IfOk result (λ found. IfSome found IsValid) }
@@ -71,6 +73,7 @@ fn load(alloc: Global, given: &Given) -> Result<Option<Job>, AllocError>
     })))
 }
 
+#[tactic(auto, unfolding(crate::specs::Words::ibis_by))]
 fn ibis(alloc: Global, words: &[String]) -> Result<Option<Job>, AllocError>
     ensures job { IfOk result (λ found. found ≡ ibis_by (map string_bytes words.now)) }
     ensures valid { IfOk result (λ found. IfSome found IsValid) }
@@ -102,8 +105,17 @@ fn task(alloc: Global, given: &Given) -> Result<Option<Task>, AllocError>
 fn is_single(given: &Given) -> bool
     ensures { result ≡ is_one_task given.now }
 {
-    let tasks = b"qebcl".iter().filter(|letter| given.has(**letter)).count();
-    tasks == 1 && (!given.has(b'v') || given.has(b'q')) && (!given.has(b'k') || given.has(b'b'))
+    let tell_fits = !given.has(b'v') || given.has(b'q');
+    let columns_fit = !given.has(b'k') || given.has(b'b');
+    tasks(given) == 1 && tell_fits && columns_fit
+}
+
+/// How many tasks are asked for.
+#[tactic(auto, unfolding(crate::specs::Words::task_count))]
+fn tasks(given: &Given) -> usize
+    ensures { result ≡ task_count given.now }
+{
+    b"qebcl".iter().filter(|letter| given.has(**letter)).count()
 }
 
 fn chosen(alloc: Global, given: &Given) -> Result<Option<Task>, AllocError>
@@ -130,6 +142,7 @@ fn chosen(alloc: Global, given: &Given) -> Result<Option<Task>, AllocError>
     Ok(None)
 }
 
+#[tactic(auto, unfolding(crate::specs::Words::session_by))]
 fn session(words: &[String]) -> Option<Job>
     ensures job { result ≡ session_by (map string_bytes words.now) }
     ensures valid { IfSome result IsValid }
@@ -140,6 +153,7 @@ fn session(words: &[String]) -> Option<Job>
     }
 }
 
+#[tactic(auto, unfolding(crate::specs::Words::gen_by))]
 fn gen_job(words: &[String]) -> Option<Job>
     ensures job { result ≡ gen_by (map string_bytes words.now) }
     ensures valid { IfSome result IsValid }

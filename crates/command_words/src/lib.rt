@@ -55,6 +55,7 @@ pub enum Job {
 }
 
 /// The request that the words spell, or None where they spell none.
+#[tactic(auto, unfolding(crate::specs::Words::request_of))]
 pub fn request(alloc: Global, words: &[String]) -> Result<Option<Job>, AllocError>
     ensures request { IfOk result (λ found. found ≡ asked_by words.now) }
     ensures valid { IfOk result (λ found. IfSome found IsValid) }

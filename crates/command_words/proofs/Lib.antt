@@ -1,3 +1,4 @@
+pub mod AheadLemmas
 pub mod NumberLemmas
 pub mod PathLemmas
 pub mod PlaceLemmas

@@ -61,7 +61,7 @@ abbrev pub is_known : Letters → List ℕ → Bool
 is_known letters word = spells_one letters.options word || spells_one letters.flags word
 
 -- Each word that is no value is an option or a flag, none of them stands twice, and each option has a next word.
-abbrev pub are_in_order : Letters → Given → Bool
+unfoldable pub are_in_order : Letters → Given → Bool
 are_in_order letters given =
     list_all (λ place. is_known letters (word_at given.words place)) given.places
     && list_all (λ letter. nat_le (times given letter) 1) letters.options

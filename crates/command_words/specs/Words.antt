@@ -75,7 +75,7 @@ first_task given =
     (option_or (option_map (λ spec. task.Build spec (value_of given 107)) (value_of given 98))
     (if has given 99 then Some task.Check else (if has given 108 then Some task.List else None))))
 
-abbrev pub task_of : Given → Option Task
+unfoldable pub task_of : Given → Option Task
 task_of given = if is_one_task given then first_task given else None
 
 -- a task on a dataset, where both are there

@@ -1,6 +1,6 @@
 //! The commands, each by the rule of its words.
 ghost use Rattle.std.specs.Prelude.{◌≡◌, ◌∷◌, IfOk, IfSome, map, string_bytes};
-ghost use Rattle.command_words.specs.Words.{ardea_by, dir_of, file_of, first_task, gen_by, ibis_by, is_one_task, load_of, per_part_of, request_of, schema_of, session_by, skip_of, task_count, task_of};
+ghost use Rattle.command_words.specs.Words.{ardea_by, dir_of, file_of, first_task, gen_by, ibis_by, ibis_of, is_one_task, load_of, per_part_of, request_of, schema_of, session_by, skip_of, task_count, task_of};
 ghost use Rattle.command_words.specs.Valid.{IsValid, IsValidTask};
 
 use crate::given::{Given, read_given};
@@ -78,18 +78,27 @@ fn ibis(alloc: Global, words: &[String]) -> Result<Option<Job>, AllocError>
     ensures job { IfOk result (λ found. found ≡ ibis_by (map string_bytes words.now)) }
     ensures valid { IfOk result (λ found. IfSome found IsValid) }
 {
-    let Some(given) = read_given(alloc, b"dqebk", b"vcl", words)? else {
+    match read_given(alloc, b"dqebk", b"vcl", words)? {
+        Some(given) => ask(alloc, &given),
+        None => Ok(None),
+    }
+}
+
+/// A task on a dataset.
+fn ask(alloc: Global, given: &Given) -> Result<Option<Job>, AllocError>
+    ensures job { IfOk result (λ found. found ≡ ibis_of (dir_of given.now) (task_of given.now)) }
+    ensures valid { IfOk result (λ found. IfSome found IsValid) }
+{
+    let Some(dir) = dir(alloc, given)? else {
         return Ok(None);
     };
-    let Some(dir) = dir(alloc, &given)? else {
-        return Ok(None);
-    };
-    match task(alloc, &given)? {
+    match task(alloc, given)? {
         Some(task) => Ok(Some(Job::Ibis { dir, task })),
         None => Ok(None),
     }
 }
 
+#[tactic(auto, unfolding(crate::specs::Words::task_of))]
 fn task(alloc: Global, given: &Given) -> Result<Option<Task>, AllocError>
     ensures task { IfOk result (λ found. found ≡ task_of given.now) }
     ensures valid { IfOk result (λ found. IfSome found IsValidTask) }

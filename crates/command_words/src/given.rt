@@ -89,6 +89,7 @@ impl Given<'_> {
 }
 
 /// The words behind a command whose options and flags have these letters, or None where they aren't in order.
+#[tactic(auto, unfolding(crate::specs::Places::are_in_order))]
 pub(crate) fn read_given<'a>(
     alloc: Global,
     options: &[u8],

@@ -2,3 +2,4 @@ pub mod AheadLemmas
 pub mod NumberLemmas
 pub mod PathLemmas
 pub mod PlaceLemmas
+pub mod WordsLemmas

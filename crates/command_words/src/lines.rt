@@ -2,6 +2,7 @@
 ghost use Rattle.std.specs.Prelude.{◌≡◌, ◌++◌, ℕ, List, [], IfOk, encode_utf8, map, option_map, string_bytes};
 ghost use Rattle.command_words.specs.Ahead.{all_words};
 ghost use Rattle.command_words.specs.Lines.{is_skipped as is_skipped_line, text_words as words_of_text, without_return as without_return_at_end, words_of};
+ghost use Rattle.fb_types.specs.Field.{is_blank as is_blank_byte};
 
 use std::alloc::{AllocError, Global};
 
@@ -54,24 +55,29 @@ fn text_words(alloc: Global, text: &str) -> Result<Option<Vec<String>>, AllocErr
     let mut words = Vec::new(alloc);
     let mut place = Place::Between;
     for c in text.chars() {
-        place = next(alloc, place, c, &mut words)?;
+        place = read_char(alloc, place, c, &mut words)?;
     }
     finish(words, place)
 }
 
 /// The place behind one character more; a blank behind a word ends it.
-fn next(alloc: Global, place: Place, c: char, words: &mut Vec<String>) -> Result<Place, AllocError>
+fn read_char(
+    alloc: Global,
+    place: Place,
+    c: char,
+    words: &mut Vec<String>,
+) -> Result<Place, AllocError>
     ensures { IfOk result (λ after. (rest : List ℕ) → all_words words.old.items place (encode_utf8 c ++ rest) ≡ all_words words.new.items after rest) }
 {
     match place {
         Place::Between => match c {
             '\'' => Ok(Place::InQuotes(String::new(alloc))),
-            ' ' | '\t' => Ok(Place::Between),
+            _ if is_blank(c) => Ok(Place::Between),
             _ => Ok(Place::InWord(longer(String::new(alloc), c)?)),
         },
         Place::InWord(word) => match c {
             '\'' => Ok(Place::InQuotes(word)),
-            ' ' | '\t' => {
+            _ if is_blank(c) => {
                 words.push(word)?;
                 Ok(Place::Between)
             }
@@ -82,6 +88,12 @@ fn next(alloc: Global, place: Place, c: char, words: &mut Vec<String>) -> Result
             _ => Ok(Place::InQuotes(longer(word, c)?)),
         },
     }
+}
+
+fn is_blank(c: char) -> bool
+    ensures { result ≡ is_blank_byte c }
+{
+    c == ' ' || c == '\t'
 }
 
 fn longer(mut word: String, c: char) -> Result<String, AllocError>

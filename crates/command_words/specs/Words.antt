@@ -34,7 +34,7 @@ abbrev pub or_left_out : {A : Type 0} → A → (List ℕ → Option A) → Opti
 or_left_out left_out read None = Some left_out
 or_left_out left_out read (Some word) = read word
 
--- the values of `-d`, `-m`, `-t`, `-p`, `-s`, each None where it isn't as it has to be
+-- the values of `-d` (100), `-m` (109), `-t` (116), `-p` (112) and `-s` (115), each None where it isn't as it has to be
 abbrev pub dir_of : Given → Option (List ℕ)
 dir_of given = option_and_then path_of (value_of given 100)
 

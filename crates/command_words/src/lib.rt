@@ -7,12 +7,14 @@ ghost use Rattle.command_words.specs.Valid.{IsValid};
 
 mod commands;
 mod given;
+mod laws;
 mod lines;
 mod values;
 
 use crate::commands::job_of;
 use fb_outside::FileName;
 use fb_types::Label;
+pub use laws::{the_words_of_lines, the_words_of_loads, the_words_of_others, the_words_of_tasks};
 pub use lines::line_words;
 use std::alloc::{AllocError, Global};
 

@@ -1,26 +1,16 @@
 -- The words that a line of a session spells.
-use Rattle.std.specs.Prelude.{ℕ, Bool, true, false, not, ◌==◌, ◌||◌, List, [], ◌∷◌, ◌++◌, Option, Some, None, filter, filter_map, is_none, map, option_map, if◌then◌else◌}
-use Rattle.std.specs.List.{concat, slice_split}
+use Rattle.std.specs.Prelude.{ℕ, Bool, true, false, not, ◌-◌, ◌==◌, ◌||◌, List, [], ◌∷◌, ◌++◌, Option, Some, None, filter, filter_map, find, is_none, length, map, option_map, take, unwrap_or, if◌then◌else◌}
+use Rattle.std.specs.List.{concat, ends_with, slice_split}
 use Rattle.std.specs.Str.{is_utf8}
-use Rattle.fb_types.specs.Field.{is_blank, without_leading_blanks}
-
-abbrev pub is_empty : {A : Type 0} → List A → Bool
-is_empty [] = true
-is_empty (x ∷ xs) = false
+use Rattle.fb_types.specs.Field.{is_blank}
 
 -- a line without a carriage return (13) at its end
 abbrev pub without_return : List ℕ → List ℕ
-without_return [] = []
-without_return (b ∷ []) = if b == 13 then [] else b ∷ []
-without_return (b ∷ c ∷ bs) = b ∷ without_return (c ∷ bs)
+without_return line = if ends_with ◌==◌ line (13 ∷ []) then take (length line - 1) line else line
 
--- nothing but blanks, or `#` (35) first after blanks
-abbrev pub is_skipped_text : List ℕ → Bool
-is_skipped_text [] = true
-is_skipped_text (b ∷ bs) = b == 35
-
+-- a line with nothing but blanks, or with `#` (35) first after blanks
 abbrev pub is_skipped : List ℕ → Bool
-is_skipped line = is_skipped_text (without_leading_blanks line)
+is_skipped line = unwrap_or (option_map (λ b. b == 35) (find (λ b. not (is_blank b)) line)) true
 
 -- A piece is a part of a word, or None where a blank parts words. Outside of quotes each byte is a piece.
 abbrev pub plain_pieces : List ℕ → List (Option (List ℕ))
@@ -37,15 +27,20 @@ pieces_of (plain ∷ quoted ∷ rest) = option_map (λ more. plain_pieces plain 
 abbrev pub joined : List (Option (List ℕ)) → List ℕ
 joined run = concat (filter_map (λ piece. piece) run)
 
+abbrev pub is_empty : {A : Type 0} → List A → Bool
+is_empty [] = true
+is_empty (x ∷ xs) = false
+
 -- the words that pieces make: one of each run of parts between blanks
 abbrev pub words_from : List (Option (List ℕ)) → List (List ℕ)
 words_from pieces = map joined (filter (λ run. not (is_empty run)) (slice_split is_none pieces))
 
--- the words of a line that isn't skipped
+-- the words of a text, or None where a quote isn't closed
 unfoldable pub text_words : List ℕ → Option (List (List ℕ))
-text_words text =
-    if is_utf8 text then option_map words_from (pieces_of (slice_split (λ b. b == 39) text)) else None
+text_words text = option_map words_from (pieces_of (slice_split (λ b. b == 39) text))
 
 -- the words of a line, cut at its line feed: none of them where the line is skipped
 abbrev pub words_of : List ℕ → Option (List (List ℕ))
-words_of line = if is_skipped (without_return line) then Some [] else text_words (without_return line)
+words_of line =
+    let text = without_return line in
+    if is_skipped text then Some [] else (if is_utf8 text then text_words text else None)

@@ -1,11 +1,14 @@
 -- What the words behind a command give: which of them are options and flags, and the values of the options.
-use Rattle.std.specs.Prelude.{ℕ, zero, suc, ◌+◌, Bool, false, ◌&&◌, ◌||◌, not, nat_le, List, [], ◌∷◌, length, Option, bytes_eq, count_by, filter, find, option_and_then, slice_get, slice_index_or}
+use Rattle.std.specs.Prelude.{ℕ, zero, suc, ◌+◌, Bool, false, ◌&&◌, ◌||◌, not, nat_le, List, [], ◌∷◌, length, Option, bytes_eq, count_by, filter, find, option_map, slice_index_or}
 use Rattle.std.specs.List.{list_all, list_any, range_with_len}
 
 -- the letters of a command: those of its options, which have a value, and those of its flags, which have none
 pub record Letters : Type 0 where
   pub options : List ℕ
   pub flags : List ℕ
+
+abbrev pub letters_by : (options flags : List ℕ) → Letters
+letters_by options flags = record { options = options; flags = flags }
 
 -- a word of two bytes, `-` (45) and the letter
 abbrev pub spells : ℕ → List ℕ → Bool
@@ -47,7 +50,7 @@ has given letter = list_any (λ place. is_read_at given letter place) given.plac
 -- its value: the word behind the place at which it is read
 abbrev pub value_of : Given → ℕ → Option (List ℕ)
 value_of given letter =
-    option_and_then (λ place. slice_get given.words (place + 1)) (find (λ place. is_read_at given letter place) given.places)
+    option_map (λ place. word_at given.words (place + 1)) (find (λ place. is_read_at given letter place) given.places)
 
 -- how often it is there
 abbrev pub times : Given → ℕ → ℕ
@@ -58,7 +61,7 @@ abbrev pub is_known : Letters → List ℕ → Bool
 is_known letters word = spells_one letters.options word || spells_one letters.flags word
 
 -- Each word that is no value is an option or a flag, none of them stands twice, and each option has a next word.
-abbrev pub are_in_order : Letters → Given → Bool
+unfoldable pub are_in_order : Letters → Given → Bool
 are_in_order letters given =
     list_all (λ place. is_known letters (word_at given.words place)) given.places
     && list_all (λ letter. nat_le (times given letter) 1) letters.options

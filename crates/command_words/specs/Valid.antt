@@ -1,6 +1,5 @@
 -- What a request that was read keeps.
-use Rattle.std.specs.Prelude.{◌≡◌, ◌<◌, ◌≤◌, ◌^◌, ⊤, ℕ, true, List, IfSome, IsUtf8, codes}
-use Rattle.std.specs.Prelude.{◌++◌}
+use Rattle.std.specs.Prelude.{◌≡◌, ◌<◌, ◌≤◌, ◌^◌, ⊤, ℕ, List, ◌++◌, IfSome, IsUtf8, codes}
 use Rattle.fb_outside.specs.Names.{IsPath}
 use Rattle.command_words.specs.declared.Job.{Job}
 use Rattle.command_words.specs.declared.Job.TheVariants.{Ardea, Gen, Ibis, Session}
@@ -8,8 +7,9 @@ use Rattle.command_words.specs.declared.Load.{Load}
 use Rattle.command_words.specs.declared.Task.{Task}
 use Rattle.command_words.specs.declared.Task.TheVariants as task
 
--- the name ends in `.csv`
-pub record EndsInCsv (name : List ℕ) : Type 0 where
+-- a path that ends in `.csv`
+pub record IsCsvPath (name : List ℕ) : Type 0 where
+  pub path : IsPath name
   pub stem : List ℕ
   pub is : name ≡ stem ++ codes ".csv"
 
@@ -17,8 +17,7 @@ pub record EndsInCsv (name : List ℕ) : Type 0 where
 pub record IsValidLoad (load : Load) : Type 0 where
   pub dir : IsPath load.dir
   pub schema : IsUtf8 load.schema
-  pub file : IfSome load.file IsPath
-  pub csv : IfSome load.file EndsInCsv
+  pub file : IfSome load.file IsCsvPath
   pub some_rows : 1 ≤ load.per_part
   pub per_part : load.per_part < 10 ^ 18
   pub skip : load.skip < 10 ^ 18

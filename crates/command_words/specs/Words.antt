@@ -4,7 +4,7 @@ use Rattle.std.specs.List.{ends_with}
 use Rattle.std.specs.Option.{option_or}
 use Rattle.fb_outside.specs.NameTests.{are_pieces}
 use Rattle.fb_types.specs.Field.{natural_of}
-use Rattle.command_words.specs.Places.{Given, Letters, are_in_order, given_by, has, value_of}
+use Rattle.command_words.specs.Places.{Given, Letters, are_in_order, given_by, has, letters_by, value_of}
 use Rattle.command_words.specs.declared.Job.{Job}
 use Rattle.command_words.specs.declared.Job.TheVariants.{Ardea, Gen, Ibis, Session}
 use Rattle.command_words.specs.declared.Task.{Task}
@@ -18,9 +18,12 @@ kept test found = option_and_then (λ value. if test value then Some value else 
 unfoldable pub is_path : List ℕ → Bool
 is_path word = nat_le (length word) 200 && are_pieces 64 word
 
--- a path that ends in `.csv`
-abbrev pub is_csv_path : List ℕ → Bool
-is_csv_path word = is_path word && ends_with (λ a b. a == b) word (codes ".csv")
+-- the path that a word is, and the path that ends in `.csv`
+abbrev pub path_of : List ℕ → Option (List ℕ)
+path_of word = if is_path word then Some word else None
+
+abbrev pub csv_path_of : List ℕ → Option (List ℕ)
+csv_path_of word = if ends_with ◌==◌ word (codes ".csv") then path_of word else None
 
 -- the number of 1 to 18 digits that a word is
 unfoldable pub number_of : List ℕ → Option ℕ
@@ -31,15 +34,15 @@ abbrev pub or_left_out : {A : Type 0} → A → (List ℕ → Option A) → Opti
 or_left_out left_out read None = Some left_out
 or_left_out left_out read (Some word) = read word
 
--- the values of `-d`, `-m`, `-t`, `-p`, `-s`, each None where it isn't as it has to be
+-- the values of `-d` (100), `-m` (109), `-t` (116), `-p` (112) and `-s` (115), each None where it isn't as it has to be
 abbrev pub dir_of : Given → Option (List ℕ)
-dir_of given = kept is_path (value_of given 100)
+dir_of given = option_and_then path_of (value_of given 100)
 
 abbrev pub schema_of : Given → Option (List ℕ)
 schema_of given = value_of given 109
 
 abbrev pub file_of : Given → Option (Option (List ℕ))
-file_of given = or_left_out None (λ word. if is_csv_path word then Some (Some word) else None) (value_of given 116)
+file_of given = or_left_out None (λ word. option_map Some (csv_path_of word)) (value_of given 116)
 
 abbrev pub per_part_of : Given → Option ℕ
 per_part_of given = kept (nat_le 1) (or_left_out 1000000 number_of (value_of given 112))
@@ -53,10 +56,14 @@ load_of (Some dir) (Some schema) (Some file) (Some per_part) (Some skip) =
     Some (Ardea (record { dir = dir; schema = schema; file = file; per_part = per_part; skip = skip }))
 load_of dir schema file per_part skip = None
 
+-- how many of the letters of tasks are there
+unfoldable pub task_count : Given → ℕ
+task_count given = count_by (λ letter. has given letter) (codes "qebcl")
+
 -- `-q` (113), `-e` (101), `-b` (98), `-c` (99), `-l` (108): exactly one of them; `-v` (118) only with `-q`, `-k` (107) only with `-b`
 abbrev pub is_one_task : Given → Bool
 is_one_task given =
-    (count_by (λ letter. has given letter) (codes "qebcl") == 1)
+    (task_count given == 1)
     && (not (has given 118) || has given 113)
     && (not (has given 107) || has given 98)
 
@@ -68,7 +75,7 @@ first_task given =
     (option_or (option_map (λ spec. task.Build spec (value_of given 107)) (value_of given 98))
     (if has given 99 then Some task.Check else (if has given 108 then Some task.List else None))))
 
-abbrev pub task_of : Given → Option Task
+unfoldable pub task_of : Given → Option Task
 task_of given = if is_one_task given then first_task given else None
 
 -- a task on a dataset, where both are there
@@ -90,10 +97,10 @@ if_in_order letters read words =
     let given = given_by letters words in if are_in_order letters given then read given else None
 
 abbrev pub ardea_letters : Letters
-ardea_letters = record { options = codes "dmtps"; flags = [] }
+ardea_letters = letters_by (codes "dmtps") []
 
 abbrev pub ibis_letters : Letters
-ibis_letters = record { options = codes "dqebk"; flags = codes "vcl" }
+ibis_letters = letters_by (codes "dqebk") (codes "vcl")
 
 unfoldable pub ardea_by : List (List ℕ) → Option Job
 ardea_by words = if_in_order ardea_letters (λ given. load_of (dir_of given) (schema_of given) (file_of given) (per_part_of given) (skip_of given)) words

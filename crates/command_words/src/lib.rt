@@ -5,10 +5,16 @@ ghost use Rattle.std.specs.Prelude.{◌≡◌, IfOk, IfSome};
 ghost use Rattle.command_words.specs.Words.{asked_by, request_of};
 ghost use Rattle.command_words.specs.Valid.{IsValid};
 
+mod commands;
+mod given;
+mod laws;
 mod lines;
+mod values;
 
+use crate::commands::job_of;
 use fb_outside::FileName;
 use fb_types::Label;
+pub use laws::{the_words_of_lines, the_words_of_loads, the_words_of_others, the_words_of_tasks};
 pub use lines::line_words;
 use std::alloc::{AllocError, Global};
 
@@ -51,9 +57,16 @@ pub enum Job {
 }
 
 /// The request that the words spell, or None where they spell none.
+#[tactic(auto, unfolding(crate::specs::Words::request_of))]
 pub fn request(alloc: Global, words: &[String]) -> Result<Option<Job>, AllocError>
     ensures request { IfOk result (λ found. found ≡ asked_by words.now) }
     ensures valid { IfOk result (λ found. IfSome found IsValid) }
 {
-    Err(AllocError)
+    match words {
+        [] => Ok(None),
+        [command, rest @ ..] => job_of(alloc, command.as_str(), rest),
+    }
 }
+
+#[cfg(test)]
+mod tests;

@@ -12,12 +12,12 @@ pub record HasUpTo (limit : ℕ) (file : Option (List ℕ)) : Type 0 where
   pub within : length bytes ≤ limit
 
 -- What a fault says of a file that is told: each names the one that there is, and none is short.
-abbrev pub Explains : ℕ → Option (List ℕ) → FileFault → Type 0
-Explains limit file Missing = file ≡ None
-Explains limit file Store = ⊤
-Explains limit file (TooLong have told) = option_map length file ≡ Some have
-Explains limit file Short = ⊥
-Explains limit file OutOfMemory = HasUpTo limit file
+abbrev pub IsFileFault : ℕ → Option (List ℕ) → FileFault → Type 0
+IsFileFault limit file Missing = file ≡ None
+IsFileFault limit file Store = ⊤
+IsFileFault limit file (TooLong have told) = option_map length file ≡ Some have
+IsFileFault limit file Short = ⊥
+IsFileFault limit file OutOfMemory = HasUpTo limit file
 
 -- a length that is told is over the limit that is told
 abbrev pub IsOver : ℕ → FileFault → Type 0

@@ -2,7 +2,7 @@ ghost use Rattle.std.specs.Prelude.{◌≡◌, ◌≤◌, Some, IfOk, IfErr, IfS
 ghost use Rattle.fb_outside.specs.Causes.{HasCause};
 ghost use Rattle.fb_outside.specs.Files.{SameFiles, file_at};
 ghost use Rattle.fb_outside.specs.Reads.{AddsOnly, AddsRead};
-ghost use Rattle.csv_load.specs.File.{Explains, IsBeforeRead, IsLookWithin, IsOver};
+ghost use Rattle.csv_load.specs.File.{IsFileFault, IsBeforeRead, IsLookWithin, IsOver};
 
 use fb_outside::{FileName, Store, Trouble, read_whole};
 use std::alloc::Global;
@@ -34,7 +34,7 @@ pub fn read_file<S: Store>(
     ensures cause { HasCause (S.faults store.old) (S.faults store.new) (IsErrOf result FileFault.Store) }
     ensures given { IfOk result (λ bytes. IfSome (S.files store.old) (λ m. file_at m name.now ≡ Some bytes.items)) }
     ensures within { IfOk result (λ bytes. length bytes.items ≤ limit) }
-    ensures fault { IfErr result (λ fault. IfSome (S.files store.old) (λ m. Explains limit (file_at m name.now) fault)) }
+    ensures fault { IfErr result (λ fault. IfSome (S.files store.old) (λ m. IsFileFault limit (file_at m name.now) fault)) }
     ensures over { IfErr result (IsOver limit) }
     ensures files { SameFiles (S.files store.old) (S.files store.new) }
 

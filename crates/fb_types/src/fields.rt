@@ -64,8 +64,8 @@ fn whole(text: &[u8]) -> Option<i128>
     }
 }
 
-/// The number that digits write, cut to 2^64.
-fn natural(digits: &[u8]) -> Option<u128>
+/// The number that one or more digits write, cut to 2^64; None for any other bytes.
+pub fn natural(digits: &[u8]) -> Option<u128>
     ensures { result ≡ option_map (λ n. min n (2 ^ 64)) (natural_of digits.now) }
 {
     if digits.is_empty() {

@@ -1,0 +1,7 @@
+pub mod OpeningLemmas
+pub mod PartsLemmas
+pub mod ListLemmas
+pub mod SameLemmas
+pub mod WorldLemmas
+pub mod FitLemmas
+pub mod ColumnLemmas

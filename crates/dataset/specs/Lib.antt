@@ -1,3 +1,4 @@
 pub mod Opened
 pub mod Damage
 pub mod Appended
+pub mod InWorld

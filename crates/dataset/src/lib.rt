@@ -4,9 +4,11 @@
 mod appending;
 mod content;
 mod fault;
+mod laws;
 mod opening;
 
 pub use appending::append;
 pub use content::{Dataset, create};
-pub use fault::{AppendFault, DamageKind, OpenFault};
+pub use fault::{AppendFault, DamageKind, OpenFault, PartFault};
+pub use laws::{one_dataset, the_columns_of_a_world, the_datasets_of_a_world};
 pub use opening::open_dataset;

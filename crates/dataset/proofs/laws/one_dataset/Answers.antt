@@ -1,0 +1,5 @@
+use Rattle.dataset.proofs.SameLemmas.{same_dataset}
+use Rattle.dataset.proofs.laws.one_dataset.Goals as goal
+
+pub returns : goal.returns
+returns c = same_dataset

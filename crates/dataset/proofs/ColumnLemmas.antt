@@ -17,6 +17,8 @@ use Rattle.column_file.specs.Opening.{column_in}
 use Rattle.column_file.specs.Values.{values_bytes, width_in}
 use Rattle.column_file.proofs.OpeningLemmas.{column_opens}
 use Rattle.column_file.proofs.ValuesLemmas.{width_known}
+use Rattle.part_meta.specs.declared.names.FileKind.TheVariants.{Words}
+use Rattle.text_column.specs.DictionaryFile.{dictionary_bytes}
 use Rattle.part_meta.specs.FileNames.{file_name, mask_name, part_name, values_name}
 use Rattle.part_meta.specs.PartText.{part_text}
 use Rattle.world.specs.World.{Content, IsContent, IsPartition, Partition, World, content_at}
@@ -90,7 +92,8 @@ module _ (files : Files) (dir : List ℕ) (number : ℕ) (column : Column) (cell
   two_there UInt is some h = first_two files (values_of (values_bytes UInt (map number_of cells))) mask [] h
   two_there Long is some h = first_two files (values_of (values_bytes Long (map number_of cells))) mask [] h
   two_there ULong is some h = first_two files (values_of (values_bytes ULong (map number_of cells))) mask [] h
-  two_there Category is some h = first_two files (values_of (values_bytes Category (map (code_of (dictionary_of cells)) cells))) mask _ h
+  two_there Category is some h = first_two files (values_of (values_bytes Category (map (code_of (dictionary_of cells)) cells))) mask
+      (record { name = file_name dir number (Some column.name) Words; bytes = dictionary_bytes (dictionary_of cells) } ∷ []) h
   two_there Text is some h = absurd (cc)
 
 -- a number for each row
@@ -147,7 +150,7 @@ content_undamaged files world dir name content found stands at h =
     let from = map-at (part_data content.schema) content.parts h.place h.part h.listed in
     let of : IsColumnOf world dir from.from h.col h.column =
     record { content = content; there = at; place = h.place; listed = from.at; in_schema = h.in_schema } in
-    let some : IsSome (width_of h.column.ty) = subst IsSome (sym h.is_width) tt in
+    let some : IsSome (width_of h.column.ty) = subst IsSome (sym h.is_width) refl in
     let has = has_numbers files world dir from.from h.col h.column stands of some in
     let cells : List Cell = column_cells h.col from.from.records in
     let rows : length cells ≡ h.part.rows = length-map from.from.records _ ∙ ap (λ p. p.rows) from.is in

@@ -28,23 +28,28 @@ same_part files dir a b h k e =
 abbrev numbers : List PartMeta → List ℕ
 numbers parts = map (λ part. part.number) parts
 
-pub same_parts : (files : Files) (dir : List ℕ) (as bs : List PartMeta) → All (HasPart files dir) as → All (HasPart files dir) bs
-    → numbers as ≡ numbers bs → as ≡ bs
+pub same_parts : (files : Files) (dir : List ℕ) (xs ys : List PartMeta) → All (HasPart files dir) xs → All (HasPart files dir) ys
+    → numbers xs ≡ numbers ys → xs ≡ ys
 same_parts files dir [] [] h k e = refl
-same_parts files dir [] (b ∷ bs) h k e = absurd (cc)
-same_parts files dir (a ∷ as) [] h k e = absurd (cc)
-same_parts files dir (a ∷ as) (b ∷ bs) h k e =
+same_parts files dir [] (b ∷ ys) h k e = absurd (cc)
+same_parts files dir (a ∷ xs) [] h k e = absurd (cc)
+same_parts files dir (a ∷ xs) (b ∷ ys) h k e =
     let number : a.number ≡ b.number = cc in
-    let rest : numbers as ≡ numbers bs = cc in
+    let rest : numbers xs ≡ numbers ys = cc in
     let first : a ≡ b =
-    same_part files dir a b (All-head (HasPart files dir) a as h) (All-head (HasPart files dir) b bs k) number in
-    let others : as ≡ bs =
-    same_parts files dir as bs (All-tail (HasPart files dir) a as h) (All-tail (HasPart files dir) b bs k) rest in
+    same_part files dir a b (All-head (HasPart files dir) a xs h) (All-head (HasPart files dir) b ys k) number in
+    let others : xs ≡ ys =
+    same_parts files dir xs ys (All-tail (HasPart files dir) a xs h) (All-tail (HasPart files dir) b ys k) rest in
     cc
 
+abbrev made_of : List ℕ → List Column → ℕ → List PartMeta → Dataset
+made_of dir schema next parts = record { dir = dir; schema = schema; next = next; parts = parts }
+
 -- two datasets that say the same
-pub by_fields : (a b : Dataset) → a.dir ≡ b.dir → a.schema ≡ b.schema → a.next ≡ b.next → a.parts ≡ b.parts → a ≡ b
-by_fields a b d s n p = cc
+by_fields : (a b : Dataset) → a.dir ≡ b.dir → a.schema ≡ b.schema → a.next ≡ b.next → a.parts ≡ b.parts → a ≡ b
+by_fields a b d s n p =
+    ap (λ x. made_of x a.schema a.next a.parts) d ∙ ap (λ x. made_of b.dir x a.next a.parts) s
+    ∙ ap (λ x. made_of b.dir b.schema x a.parts) n ∙ ap (λ x. made_of b.dir b.schema b.next x) p
 
 pub same_dataset : (files : Files) (dir : List ℕ) (a b : Dataset) → OpensAs files dir a → OpensAs files dir b → a ≡ b
 same_dataset files dir a b h k =

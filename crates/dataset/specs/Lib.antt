@@ -2,3 +2,4 @@ pub mod Opened
 pub mod Damage
 pub mod Appended
 pub mod InWorld
+pub mod PartColumns

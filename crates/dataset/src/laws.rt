@@ -15,9 +15,11 @@ ghost use Rattle.dataset.specs.Opened.{OpensAs};
 
 use crate::content::Dataset;
 
-/// The same files at a path open as one dataset alone.
+/// The same files at a path open as one dataset alone, and then none of its texts is damaged.
 pub fn one_dataset()
-    ensures { (files : Files) (dir : List ℕ) (a b : Dataset) → OpensAs files dir a → OpensAs files dir b → a ≡ b }
+    ensures same { (files : Files) (dir : List ℕ) (a b : Dataset) → OpensAs files dir a → OpensAs files dir b → a ≡ b }
+    ensures undamaged { (files : Files) (dir : List ℕ) (dataset : Dataset) (found : Damage) → OpensAs files dir dataset
+        → IsFirstDamaged files dir found → ⊥ }
 {}
 
 /// Where the files stand for a world, its datasets open, and nothing else does; no catalog, part's text or column is damaged.

@@ -6,9 +6,11 @@ mod content;
 mod fault;
 mod laws;
 mod opening;
+mod part_columns;
 
 pub use appending::append;
 pub use content::{Dataset, create};
 pub use fault::{AppendFault, DamageKind, OpenFault, PartFault};
 pub use laws::{one_dataset, the_columns_of_a_world, the_datasets_of_a_world};
 pub use opening::open_dataset;
+pub use part_columns::{column_damage, open_part_column};

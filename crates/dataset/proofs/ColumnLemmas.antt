@@ -155,7 +155,7 @@ content_undamaged files world dir name content found stands at h =
     let cells : List Cell = column_cells h.col from.from.records in
     let rows : length cells ≡ h.part.rows = length-map from.from.records _ ∙ ap (λ p. p.rows) from.is in
     let opens : column_in h.width h.part.rows (file_at files (values_name dir h.part.number name)) (file_at files (mask_name dir h.part.number name))
-        ≡ Ok (map is_present cells) =
+    ≡ Ok (map is_present cells) =
     subst (λ (w : ℕ). column_in w h.part.rows (file_at files (values_name dir h.part.number name)) (file_at files (mask_name dir h.part.number name)) ≡ Ok (map is_present cells))
     (width_known h.column.ty h.width h.is_width)
     (subst (λ (n : List ℕ). column_in (width_in h.column.ty) h.part.rows (file_at files (values_name dir h.part.number n)) (file_at files (mask_name dir h.part.number n)) ≡ Ok (map is_present cells)) h.named

@@ -5,4 +5,3 @@ pub mod SameLemmas
 pub mod WorldLemmas
 pub mod FitLemmas
 pub mod ColumnLemmas
-pub mod DamageLemmas

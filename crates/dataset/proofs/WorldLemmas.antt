@@ -48,9 +48,11 @@ module _ (files : Files) (dir : List ℕ) (schema : List Column) (next : ℕ) (v
       → All (PartRests files dir schema) parts → All (λ part. HasPart files dir part × (part.schema ≡ schema)) (map (part_data schema) parts)
   has_parts [] below h rests = All-nil (λ (part : PartMeta). HasPart files dir part × (part.schema ≡ schema))
   has_parts (part ∷ parts) below h rests =
-      All-cons (λ (part : PartMeta). HasPart files dir part × (part.schema ≡ schema)) (part_data schema part) (map (part_data schema) parts)
-      (has_part part (All-head (λ n. n < next) part.number (map (λ p. p.number) parts) below) (All-head (IsPartition schema) part parts h)
-      (All-head (PartRests files dir schema) part parts rests), refl)
+      All-cons (λ (part : PartMeta). HasPart files dir part × (part.schema ≡ schema)) (part_data schema part) (map (part_data schema) parts) (
+        has_part part (All-head (λ n. n < next) part.number (map (λ p. p.number) parts) below) (All-head (IsPartition schema) part parts h)
+            (All-head (PartRests files dir schema) part parts rests),
+        refl,
+      )
       (has_parts parts (All-tail (λ n. n < next) part.number (map (λ p. p.number) parts) below) (All-tail (IsPartition schema) part parts h)
       (All-tail (PartRests files dir schema) part parts rests))
 

@@ -7,6 +7,8 @@ mod fault;
 mod laws;
 mod opening;
 mod part_columns;
+#[cfg(test)]
+mod tests;
 
 pub use appending::append;
 pub use content::{Dataset, create};

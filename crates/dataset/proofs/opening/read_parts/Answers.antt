@@ -11,7 +11,7 @@ returns-in_err-part-clause-reads g c =
     AddsOnly-trans (IsTextLook c.args.dir.now) _ _ _ c.loop-number.invariant.reads c.read_part.ensures.reads
 
 pub returns-in_err-part-clause-unread : goal.returns-in_err-part-clause-unread
-returns-in_err-part-clause-unread g c = 
+returns-in_err-part-clause-unread g c =
     let p = err_from_is_err_and c.from_residual.result c.from_residual.ensures.1 in
     rw (p.1, p.2)
     (next_unread _ _ c.args.dir.now c.args.catalog.now c.loop-number.parts c.loop-number.number-index _ c.in_err-part.field-0.0

@@ -5,3 +5,4 @@ pub mod SameLemmas
 pub mod WorldLemmas
 pub mod FitLemmas
 pub mod ColumnLemmas
+pub mod LookLemmas

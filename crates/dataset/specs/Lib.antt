@@ -3,3 +3,4 @@ pub mod Damage
 pub mod Appended
 pub mod InWorld
 pub mod PartColumns
+pub mod Looks

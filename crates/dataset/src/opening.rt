@@ -5,10 +5,12 @@ ghost use Rattle.std.specs.List.{All};
 ghost use Rattle.fb_outside.specs.Causes.{HasCause};
 ghost use Rattle.fb_outside.specs.Files.{SameFiles};
 ghost use Rattle.fb_outside.specs.Names.{IsPath};
-ghost use Rattle.fb_outside.specs.Reads.{AddsOnly};
+ghost use Rattle.fb_outside.specs.Reads.{AddsOnly, whole_look};
 ghost use Rattle.part_meta.specs.CatalogText.{IsCatalog};
+ghost use Rattle.part_meta.specs.FileNames.{part_name};
 ghost use Rattle.part_meta.specs.PartText.{IsPart};
 ghost use Rattle.dataset.specs.Damage.{IsNext, IsNoText, IsPartText, NamesText, Unopened, damaged};
+ghost use Rattle.dataset.specs.Looks.{IsListedLook};
 ghost use Rattle.dataset.specs.Opened.{HasCatalog, HasPart, IsDataset, IsTextLook, OpensAs};
 
 use crate::content::Dataset;
@@ -31,6 +33,7 @@ pub fn open_dataset<S: Store>(
     ensures cause { HasCause (S.faults store.old) (S.faults store.new) (IsErrOf result OpenFault.Store) }
     ensures files { SameFiles (S.files store.old) (S.files store.new) }
     ensures reads { AddsOnly (IsTextLook dir.now) (S.reads store.old) (S.reads store.new) }
+    ensures listed { IfSome (S.files store.old) (λ m. AddsOnly (IsListedLook m dir.now) (S.reads store.old) (S.reads store.new)) }
     ensures valid { IfOk result IsDataset }
     ensures path { IfOk result (λ dataset. dataset.dir ≡ dir.now) }
 
@@ -50,6 +53,7 @@ pub fn open_dataset<S: Store>(
     })
 }
 
+#[tactic(auto, using(crate::proofs::LookLemmas::catalog_listed, crate::proofs::LookLemmas::told_same))]
 fn read_catalog<S: Store>(
     alloc: Global,
     store: &mut S,
@@ -59,6 +63,7 @@ fn read_catalog<S: Store>(
     ensures cause { HasCause (S.faults store.old) (S.faults store.new) (IsErrOf result OpenFault.Store) }
     ensures files { SameFiles (S.files store.old) (S.files store.new) }
     ensures reads { AddsOnly (IsTextLook dir.now) (S.reads store.old) (S.reads store.new) }
+    ensures listed { IfSome (S.files store.old) (λ m. AddsOnly (IsListedLook m dir.now) (S.reads store.old) (S.reads store.new)) }
     ensures valid { IfOk result IsCatalog }
     ensures read { IfOk result (λ catalog. IfSome (S.files store.old) (λ m. HasCatalog m dir.now catalog)) }
     ensures unread { IfErr result (λ fault. IfSome (S.files store.old) (λ m. Unopened m dir.now fault)) }
@@ -87,6 +92,8 @@ fn read_parts<S: Store>(
     ensures cause { HasCause (S.faults store.old) (S.faults store.new) (IsErrOf result OpenFault.Store) }
     ensures files { SameFiles (S.files store.old) (S.files store.new) }
     ensures reads { AddsOnly (IsTextLook dir.now) (S.reads store.old) (S.reads store.new) }
+    ensures listed { IfSome (S.files store.old)
+        (λ m. HasCatalog m dir.now catalog.now → AddsOnly (IsListedLook m dir.now) (S.reads store.old) (S.reads store.new)) }
     ensures numbers { IfOk result (λ parts. map (λ part. part.number) parts ≡ catalog.now.parts) }
     ensures valid { IfOk result (All (λ part. IsPart part × (part.schema ≡ catalog.now.schema))) }
     ensures read { IfOk result (λ parts. IfSome (S.files store.old)
@@ -104,6 +111,7 @@ fn read_parts<S: Store>(
 }
 
 /// What the text of the part of that number says.
+#[tactic(auto, using(crate::proofs::LookLemmas::part_whole, crate::proofs::LookLemmas::told_same))]
 fn read_part<S: Store>(
     alloc: Global,
     store: &mut S,
@@ -116,6 +124,8 @@ fn read_part<S: Store>(
     ensures cause { HasCause (S.faults store.old) (S.faults store.new) (IsErrOf result OpenFault.Store) }
     ensures files { SameFiles (S.files store.old) (S.files store.new) }
     ensures reads { AddsOnly (IsTextLook dir.now) (S.reads store.old) (S.reads store.new) }
+    ensures whole { IfSome (S.files store.old)
+        (λ m. AddsOnly (λ look. look ≡ whole_look m (part_name dir.now number)) (S.reads store.old) (S.reads store.new)) }
     ensures number { IfOk result (λ part. part.number ≡ number) }
     ensures valid { IfOk result (λ part. IsPart part × (part.schema ≡ catalog.now.schema)) }
     ensures read { IfOk result (λ part. IfSome (S.files store.old) (λ m. HasPart m dir.now part)) }

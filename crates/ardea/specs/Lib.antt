@@ -1,4 +1,3 @@
 pub mod Load
-pub mod Reading
-pub mod Written
 pub mod Done
+pub mod Order

@@ -26,7 +26,8 @@ use Rattle.world.specs.PartFiles.{code_of, column_cells, column_files, columns_f
 use Rattle.world.specs.Stands.{PartRests, Stands}
 use Rattle.dataset.specs.declared.content.Dataset.{Dataset}
 use Rattle.dataset.specs.Damage.{Damage, IsColumnDamaged}
-use Rattle.dataset.specs.InWorld.{HasNumbers, IsColumnOf, IsDatasetOf, dataset_of, stored_numbers}
+use Rattle.dataset.specs.Found.{dataset_in}
+use Rattle.dataset.specs.InWorld.{HasNumbers, IsColumnOf, IsDatasetOf, stored_numbers}
 use Rattle.dataset.specs.Opened.{OpensAs}
 use Rattle.dataset.proofs.FitLemmas.{cells_fit, stored_fit}
 use Rattle.dataset.proofs.ListLemmas.{All-at, All-left, All-right, Mapped, map-at}
@@ -145,7 +146,7 @@ has_numbers files world dir part col column stands of some =
 
 -- over the dataset of some content
 content_undamaged : (files : Files) (world : World) (dir name : List ℕ) (content : Content) (found : Damage) → Stands files world
-    → content_at world dir ≡ Some content → IsColumnDamaged files (dataset_of dir content) name found → ⊥
+    → content_at world dir ≡ Some content → IsColumnDamaged files (dataset_in dir content) name found → ⊥
 content_undamaged files world dir name content found stands at h =
     let from = map-at (part_data content.schema) content.parts h.place h.part h.listed in
     let of : IsColumnOf world dir from.from h.col h.column =

@@ -6,3 +6,4 @@ pub mod WorldLemmas
 pub mod FitLemmas
 pub mod ColumnLemmas
 pub mod LookLemmas
+pub mod LoadLemmas

@@ -18,7 +18,9 @@ use Rattle.world.specs.Stands.{IsFree, PartRests, Rests, Stands}
 use Rattle.dataset.specs.declared.content.Dataset.{Dataset}
 use Rattle.dataset.specs.Damage.{Damage, IsFirstDamaged, IsGood, IsNext, part_with}
 use Rattle.dataset.specs.Damage.IsFirstDamaged.{NoCatalogText, NoPart, NoPartText}
-use Rattle.dataset.specs.InWorld.{IsDatasetOf, dataset_of}
+use Rattle.dataset.specs.Found.{Found, IsFound, dataset_in, found_by, found_in}
+use Rattle.dataset.specs.Found.Found.{Absent, Broken, There}
+use Rattle.dataset.specs.InWorld.{IsDatasetOf}
 use Rattle.dataset.specs.Opened.{HasCatalog, HasPart, OpensAs, catalog_in}
 use Rattle.dataset.proofs.ListLemmas.{All-at, All-right, Mapped, map-at}
 use Rattle.dataset.proofs.SameLemmas.{same_catalog, same_dataset}
@@ -61,7 +63,7 @@ numbers_kept schema [] = refl
 numbers_kept schema (part ∷ parts) = ap (λ ns. part.number ∷ ns) (numbers_kept schema parts)
 
 -- what a dataset's catalog says is what its content's does
-same_data : (dir : List ℕ) (content : Content) → catalog_data content ≡ catalog_in (dataset_of dir content)
+same_data : (dir : List ℕ) (content : Content) → catalog_data content ≡ catalog_in (dataset_in dir content)
 same_data dir content =
     ap (λ (ns : List ℕ). let c : Catalog = record { schema = content.schema; next = content.next; parts = ns } in c)
     (sym (numbers_kept content.schema content.parts))
@@ -71,7 +73,7 @@ same_data dir content =
 has_catalog : (files : Files) (dir : List ℕ) (content : Content) → IsContent content → Rests files dir content → HasCatalog files dir (catalog_data content)
 has_catalog files dir content valid rests = record { valid = valid.catalog; there = rests.catalog }
 
-opens_content : (files : Files) (dir : List ℕ) (content : Content) → IsContent content → Rests files dir content → OpensAs files dir (dataset_of dir content)
+opens_content : (files : Files) (dir : List ℕ) (content : Content) → IsContent content → Rests files dir content → OpensAs files dir (dataset_in dir content)
 opens_content files dir content valid rests =
     record {
       path = refl;
@@ -80,7 +82,7 @@ opens_content files dir content valid rests =
     }
 
 pub opens : (files : Files) (world : World) (dir : List ℕ) (content : Content) → Stands files world → content_at world dir ≡ Some content
-    → OpensAs files dir (dataset_of dir content)
+    → OpensAs files dir (dataset_in dir content)
 opens files world dir content stands at = opens_content files dir content (stands.valid dir content at) (stands.rests dir content at)
 
 -- ---- and nothing else does
@@ -90,7 +92,7 @@ opened_by : (files : Files) (world : World) (dir : List ℕ) (dataset : Dataset)
 opened_by files world dir dataset stands path h None at =
     let bad : None ≡ Some (catalog_text (catalog_in dataset)) = sym (stands.free dir path at).catalog ∙ h.catalog.there in absurd (cc)
 opened_by files world dir dataset stands path h (Some content) at =
-    record { content = content; there = at; is = same_dataset files dir dataset (dataset_of dir content) h (opens files world dir content stands at) }
+    record { content = content; there = at; is = same_dataset files dir dataset (dataset_in dir content) h (opens files world dir content stands at) }
 
 pub opened : (files : Files) (world : World) (dir : List ℕ) (dataset : Dataset) → Stands files world → IsPath dir → OpensAs files dir dataset
     → IsDatasetOf world dir dataset
@@ -148,7 +150,31 @@ sound_by : (files : Files) (world : World) (dir : List ℕ) (found : Damage) →
     → (content : Option Content) → content_at world dir ≡ content → ⊥
 sound_by files world dir found stands path h None at = catalog_there files dir found h (stands.free dir path at).catalog
 sound_by files world dir found stands path h (Some content) at =
-    undamaged files dir (dataset_of dir content) found (opens files world dir content stands at) h
+    undamaged files dir (dataset_in dir content) found (opens files world dir content stands at) h
 
 pub sound : (files : Files) (world : World) (dir : List ℕ) (found : Damage) → Stands files world → IsPath dir → IsFirstDamaged files dir found → ⊥
 sound files world dir found stands path h = sound_by files world dir found stands path h (content_at world dir) refl
+
+-- ---- what is found at a path is what the world has there
+
+found_by_content : (files : Files) (world : World) (dir : List ℕ) (found : Found) → Stands files world → IsPath dir → IsFound files dir found
+    → (content : Option Content) → content_at world dir ≡ content → found ≡ found_by dir content
+found_by_content files world dir Absent stands path h None at = refl
+found_by_content files world dir Absent stands path h (Some content) at =
+    let bad : None ≡ Some (catalog_text (catalog_data content)) = sym h ∙ (stands.rests dir content at).catalog in absurd (cc)
+found_by_content files world dir (There dataset) stands path h None at =
+    let bad : None ≡ Some (catalog_text (catalog_in dataset)) = sym (stands.free dir path at).catalog ∙ h.catalog.there in absurd (cc)
+found_by_content files world dir (There dataset) stands path h (Some content) at =
+    ap There (same_dataset files dir dataset (dataset_in dir content) h (opens files world dir content stands at))
+found_by_content files world dir (Broken damage) stands path h content at = absurd (sound files world dir damage stands path h)
+
+pub found_is : (files : Files) (world : World) (dir : List ℕ) (found : Found) → Stands files world → IsPath dir → IsFound files dir found → found ≡ found_in world dir
+found_is files world dir found stands path h = found_by_content files world dir found stands path h (content_at world dir) refl
+
+is_found_by : (files : Files) (world : World) (dir : List ℕ) → Stands files world → IsPath dir → (content : Option Content) → content_at world dir ≡ content
+    → IsFound files dir (found_by dir content)
+is_found_by files world dir stands path None at = (stands.free dir path at).catalog
+is_found_by files world dir stands path (Some content) at = opens files world dir content stands at
+
+pub is_found : (files : Files) (world : World) (dir : List ℕ) → Stands files world → IsPath dir → IsFound files dir (found_in world dir)
+is_found files world dir stands path = is_found_by files world dir stands path (content_at world dir) refl

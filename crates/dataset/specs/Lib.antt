@@ -4,3 +4,5 @@ pub mod Appended
 pub mod InWorld
 pub mod PartColumns
 pub mod Looks
+pub mod Found
+pub mod Loads

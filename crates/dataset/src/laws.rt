@@ -10,7 +10,8 @@ ghost use Rattle.world.specs.PartFiles.{column_cells};
 ghost use Rattle.world.specs.Stands.{Stands};
 ghost use Rattle.world.specs.World.{Content, Partition, World, content_at};
 ghost use Rattle.dataset.specs.Damage.{Damage, IsColumnDamaged, IsFirstDamaged};
-ghost use Rattle.dataset.specs.InWorld.{HasNumbers, IsColumnOf, IsDatasetOf, dataset_of};
+ghost use Rattle.dataset.specs.Found.{Found, IsFound, dataset_in, found_in};
+ghost use Rattle.dataset.specs.InWorld.{HasNumbers, IsColumnOf, IsDatasetOf};
 ghost use Rattle.dataset.specs.Opened.{OpensAs};
 
 use crate::content::Dataset;
@@ -22,10 +23,18 @@ pub fn one_dataset()
         → IsFirstDamaged files dir found → ⊥ }
 {}
 
+/// What is found at a path of files that stand for a world is what the world has there.
+pub fn what_is_found_in_a_world()
+    ensures found { (files : Files) (world : World) (dir : List ℕ) (found : Found) → Stands files world
+        → IsPath dir → IsFound files dir found → found ≡ found_in world dir }
+    ensures there { (files : Files) (world : World) (dir : List ℕ) → Stands files world
+        → IsPath dir → IsFound files dir (found_in world dir) }
+{}
+
 /// Where the files stand for a world, its datasets open, and nothing else does; no catalog, part's text or column is damaged.
 pub fn the_datasets_of_a_world()
     ensures opens { (files : Files) (world : World) (dir : List ℕ) (content : Content) → Stands files world
-        → content_at world dir ≡ Some content → OpensAs files dir (dataset_of dir content) }
+        → content_at world dir ≡ Some content → OpensAs files dir (dataset_in dir content) }
     ensures opened { (files : Files) (world : World) (dir : List ℕ) (dataset : Dataset) → Stands files world
         → IsPath dir → OpensAs files dir dataset → IsDatasetOf world dir dataset }
     ensures absent { (files : Files) (world : World) (dir : List ℕ) → Stands files world

@@ -1,5 +1,0 @@
-pub mod OpenLemmas
-pub mod CountLemmas
-pub mod ScanLemmas
-pub mod WorldLemmas
-pub mod AskedLemmas

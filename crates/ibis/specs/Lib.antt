@@ -1,4 +1,3 @@
 pub mod Query
 pub mod Count
-pub mod Found
-pub mod Steps
+pub mod Listing

@@ -17,7 +17,6 @@ pub use fault::{AppendFault, DamageKind, OpenFault, PartFault};
 pub use laws::{
     one_dataset, the_columns_of_a_world, the_datasets_of_a_world, what_is_found_in_a_world,
 };
-pub use fault::{AppendFault, DamageKind, OpenFault};
 pub use load_law::{
     the_catalog_before_a_load, the_files_of_a_load, the_names_of_a_load, the_refusals_of_loads,
     the_store_after_a_load, the_world_after_a_load,

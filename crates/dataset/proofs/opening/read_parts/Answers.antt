@@ -32,9 +32,9 @@ loop-number-preserved g c =
       kept = c.read_part.ensures.files ∙ c.loop-number.invariant.kept;
       reads = AddsOnly-trans (IsTextLook c.args.dir.now) _ _ _ c.loop-number.invariant.reads c.read_part.ensures.reads;
       listed = next_listed _ _ c.args.dir.now c.args.catalog.now c.loop-number.number-index _ _ _ _ c.loop-number.invariant.kept
-    (rw c.as_slice-number-items.ensures at c.loop-number-test.true)
-    (ap (λ (listed : List ℕ). get_or listed c.loop-number.number-index 0) c.as_slice-number-items.ensures)
-    c.loop-number.invariant.listed c.read_part.ensures.whole;
+          (rw c.as_slice-number-items.ensures at c.loop-number-test.true)
+          (ap (λ (listed : List ℕ). get_or listed c.loop-number.number-index 0) c.as_slice-number-items.ensures)
+          c.loop-number.invariant.listed c.read_part.ensures.whole;
       numbers = next_number c.loop-number.parts c.push.new.self c.in_ok-part.part c.args.catalog.now.parts c.loop-number.number-index _
           c.in_ok-push.ensures.ok c.loop-number.invariant.numbers
           (rw c.as_slice-number-items.ensures at c.loop-number-test.true) c.in_ok-part.ensures.number

@@ -30,6 +30,3 @@ RepliesBy false reply status old new = (status ≡ reply.status) × Grows old ne
 abbrev pub Replies : Outcome → Status → Option (List ℕ) → Option (List ℕ) → Type 0
 Replies reply status old new = RepliesBy (is_fault status) reply status old new
 
--- The command ended as the reply says, but for want of memory.
-abbrev pub Completes : Outcome → Status → Type 0
-Completes reply status = (status ≡ reply.status) ⊎ (status ≡ OutOfMemory)

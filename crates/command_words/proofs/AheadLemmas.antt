@@ -1,13 +1,12 @@
 -- What a reader of a line has still to give behind one character more.
-use Rattle.std.proofs.Common.{◌≡◌, ◌≢◌, ◌⊎◌, ◌∙◌, inl, inr, Global, Option, Some, None, String, map, option_map, string_bytes, ◌<◌, ◌≤◌, ◌+◌, ℕ, zero, suc, Bool, true, false, List, [], ◌∷◌, ◌++◌, append-nil, append_assoc, ap, arith, eqb, get_or, length, ltb, refl, subst, sym}
+use Rattle.std.proofs.Common.{◌≡◌, ◌≢◌, ◌⊎◌, ◌∙◌, inl, inr, Global, Option, Some, None, String, map, option_map, string_bytes, ◌<◌, ◌≤◌, ℕ, suc, Bool, true, false, List, [], ◌∷◌, ◌++◌, append-nil, append_assoc, arith, eqb, get_or, length, ltb, refl, subst, sym}
 use Rattle.std.specs.List.{AllByRecursion}
-use Rattle.std.specs.Char.{len_utf8}
 use Rattle.std.proofs.lemmas.List.{map-append}
 use Rattle.std.proofs.lemmas.Bool.{eqb-true, ltb-false, ltb-true, ne_eqb}
 use Rattle.std.proofs.lemmas.Str.{encodes-append, inside_one, length-encode, len_utf8_bounds}
 use lib.Utf8.{encode, encodes}
 use Rattle.fb_types.specs.Field.{is_blank}
-use Rattle.command_words.specs.Ahead.{Standing, ahead, all_words, between, in_quotes, in_word}
+use Rattle.command_words.specs.Ahead.{ahead, all_words, between, in_quotes, in_word}
 use Rattle.command_words.specs.declared.lines.Place.{Place}
 use Rattle.command_words.specs.declared.lines.Place.TheVariants.{Between, InWord, InQuotes}
 

@@ -1,5 +1,5 @@
 -- The test of a path decides what a path is, and a path is a file's name.
-use Rattle.std.proofs.Common.{◌≡◌, ◌-◌, ◌&&◌, ◌++◌, ℕ, Bool, true, false, List, drop, eqb, length, nat_le, take, Option, Some, None, IsSome, is_some, Result, Ok, Err, IfOk, IfSome, codes, cond, if◌then◌else◌, refl, sym, ap, subst, ◌∙◌, arith}
+use Rattle.std.proofs.Common.{◌≡◌, ◌-◌, ◌&&◌, ◌++◌, ℕ, Bool, true, false, List, drop, eqb, length, nat_le, take, Option, Some, None, IsSome, is_some, Result, Ok, Err, IfOk, IfSome, codes, cond, refl, sym, ap, subst, ◌∙◌, arith}
 use Rattle.std.specs.List.{ends_with}
 use Rattle.std.proofs.lemmas.Bool.{leb-true, le-leb}
 use Rattle.std.proofs.lemmas.List.{take-append-drop}

@@ -1,5 +1,5 @@
 -- The places of values, one by one.
-use Rattle.std.proofs.Common.{◌≡◌, ◌<◌, ◌+◌, ◌∙◌, Some, ℕ, zero, suc, Bool, true, false, cond, not, ◌&&◌, List, [], ◌∷◌, ◌++◌, All, String, add-one, add-zero, zero-add, append-nil, ap, drop, filter, find, get_or, length, map, option_map, refl, string_bytes, sym, arith}
+use Rattle.std.proofs.Common.{◌≡◌, ◌<◌, ◌+◌, ◌∙◌, Some, ℕ, zero, suc, Bool, true, false, cond, not, ◌&&◌, List, [], ◌∷◌, ◌++◌, String, add-one, add-zero, zero-add, append-nil, ap, drop, filter, find, get_or, length, map, refl, string_bytes, sym, arith}
 use Rattle.std.specs.List.{range_with_len}
 use Rattle.std.proofs.lemmas.List.{at_drop_more, get_or-map}
 use Rattle.command_words.specs.Places.{is_value, spells_one, word_at}

@@ -1,8 +1,8 @@
 -- The words ahead at a text's beginning are the words of its pieces.
 use Rattle.std.proofs.Common.{◌≡◌, ◌∙◌, ℕ, Bool, true, false, cond, List, [], ◌∷◌, ◌++◌, Option, Some, None, append-nil, append_assoc, ap, eqb, filter, is_none, map, not, option_map, refl, sym}
-use Rattle.std.specs.List.{concat, onto_first, slice_split}
+use Rattle.std.specs.List.{onto_first, slice_split}
 use Rattle.fb_types.specs.Field.{is_blank}
-use Rattle.command_words.specs.Ahead.{Standing, ahead, between, in_quotes, in_word}
+use Rattle.command_words.specs.Ahead.{ahead, between, in_quotes, in_word}
 use Rattle.command_words.specs.Lines.{is_empty, is_skipped, joined, pieces_of, plain_pieces, text_words, without_return, words_from, words_of}
 use Rattle.std.specs.Str.{IsUtf8, is_utf8}
 use Rattle.std.proofs.lemmas.Str.{IsUtf8-from_is_utf8}

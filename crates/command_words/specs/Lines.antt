@@ -1,5 +1,5 @@
 -- The words that a line of a session spells.
-use Rattle.std.specs.Prelude.{ℕ, Bool, true, false, not, ◌-◌, ◌==◌, ◌||◌, List, [], ◌∷◌, ◌++◌, Option, Some, None, filter, filter_map, find, is_none, length, map, option_map, take, unwrap_or, if◌then◌else◌}
+use Rattle.std.specs.Prelude.{ℕ, Bool, true, false, not, ◌-◌, ◌==◌, List, [], ◌∷◌, ◌++◌, Option, Some, None, filter, filter_map, find, is_none, length, map, option_map, take, unwrap_or, if◌then◌else◌}
 use Rattle.std.specs.List.{concat, ends_with, slice_split}
 use Rattle.std.specs.Str.{is_utf8}
 use Rattle.fb_types.specs.Field.{is_blank}

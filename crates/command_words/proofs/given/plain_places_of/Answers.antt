@@ -1,6 +1,5 @@
-use Rattle.std.proofs.Common.{◌≡◌, ◌∙◌, ◌<◌, ◌^◌, ◌+◌, ◌∷◌, [], All, String, false, true, length, map, not, string_bytes, sym, arith, refl}
+use Rattle.std.proofs.Common.{◌∙◌, ◌<◌, ◌^◌, ◌+◌, sym, arith, refl}
 use Rattle.std.proofs.lemmas.List.Elements.{All-push}
-use Rattle.command_words.specs.Places.{is_value, spells_one, word_at}
 use Rattle.command_words.proofs.PlaceLemmas.{is_value-more, is_value-none, plain-here, plain-value, word_at-map}
 use Rattle.command_words.proofs.given.plain_places_of.Goals as goal
 use Rattle.command_words.proofs.given.plain_places_of.Goals.{then-not-at_value+in_ok-push, else-not-at_value, then-not-at_value-2, else-not-at_value-2}

@@ -1,4 +1,4 @@
-use Rattle.std.proofs.Common.{◌≡◌, sym, arith}
+use Rattle.std.proofs.Common.{sym, arith}
 use Rattle.command_words.proofs.AheadLemmas.{IsPlain-from, blank_ends, blank_stays, char_begins, char_quoted, char_touches, quote_begins, quote_ends, quote_touches}
 use Rattle.command_words.proofs.lines.read_char.Goals as goal
 

@@ -1,4 +1,4 @@
-use Rattle.std.proofs.Common.{◌≡◌, ◌<◌, ◌^◌, Option, Some, None, ℕ, min, option_map, sym, ◌∙◌, arith}
+use Rattle.std.proofs.Common.{◌≡◌, ◌<◌, ◌^◌, Some, None, min, option_map, sym, ◌∙◌, arith}
 use Rattle.fb_types.specs.Field.{natural_of}
 use Rattle.command_words.proofs.NumberLemmas.{number_of-long, number_of-natural}
 use Rattle.command_words.proofs.values.number.Goals as goal

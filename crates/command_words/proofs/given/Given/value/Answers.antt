@@ -1,4 +1,4 @@
-use Rattle.std.proofs.Common.{◌≡◌, ◌+◌, ◌<◌, ◌^◌, get_or, arith}
+use Rattle.std.proofs.Common.{◌+◌, ◌<◌, ◌^◌, get_or, arith}
 use Rattle.command_words.proofs.given.Given.value.Goals as goal
 
 pub overflow_add-place : goal.overflow_add-place

@@ -1,0 +1,2 @@
+pub mod SpecTextLemmas
+pub mod PlacesLemmas

@@ -12,10 +12,17 @@ to_its_end k rows size (Err why) = Err (fault.Bitmap k why)
 to_its_end k rows size (Ok (bits, used)) =
     if nat_lt used size then Err (fault.BitmapTrailing k) else if length bits == rows then Ok bits else Err (fault.BitmapLength k)
 
+-- so many bytes of bitmap k, or that there are fewer
+abbrev pub room_in : ℕ → ℕ → List ℕ → Result (List ℕ) IndexFault
+room_in k size bytes = if length bytes == size then Ok bytes else Err (fault.Bitmap k words.Short)
+
+abbrev pub with_bytes : ℕ → ℕ → Result (List ℕ) IndexFault → Result (List Bool) IndexFault
+with_bytes k rows (Ok bytes) = to_its_end k rows (length bytes) (vector_at bytes)
+with_bytes k rows (Err why) = Err why
+
 -- the bits of bitmap k in the bytes between its places, of which there are so many, or the first fault
 abbrev pub bitmap_in : ℕ → ℕ → ℕ → List ℕ → Result (List Bool) IndexFault
-bitmap_in k rows size bytes =
-    if length bytes == size then to_its_end k rows size (vector_at bytes) else Err (fault.Bitmap k words.Short)
+bitmap_in k rows size bytes = with_bytes k rows (room_in k size bytes)
 
 -- what a call that fetches bitmap k may answer
 abbrev pub StopsFetching : ℕ → IndexFault → Type 0

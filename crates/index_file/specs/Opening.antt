@@ -10,7 +10,7 @@ use Rattle.index_spec.specs.declared.spec.SpecKind.{SpecKind}
 use Rattle.fb_outside.specs.Files.{Files, file_at}
 use Rattle.fb_outside.specs.Reads.{Look}
 use Rattle.index_file.specs.Order.{first_out_of_order}
-use Rattle.index_file.specs.Places.{first_wrong_place}
+use Rattle.index_file.specs.Places.{first_wrong_place, last_place}
 use Rattle.index_file.specs.Front.{front_in, size_of, rest_size, sizes_at}
 use Rattle.index_file.specs.declared.edge.Edge.{Edge}
 use Rattle.index_file.specs.declared.front.Front.{Front}
@@ -99,7 +99,7 @@ with_bins size front spec bytes (Ok bins) =
 
 abbrev pub with_spec : ℕ → Front → List ℕ → Result Spec IndexFault → Result Head IndexFault
 with_spec size front bytes (Err why) = Err why
-with_spec size front bytes (Ok spec) = with_bins size front spec (drop (32 * front.bins) bytes) (bins_in front.bins bytes)
+with_spec size front bytes (Ok spec) = with_bins size front spec (drop (32 * front.bins) bytes) (bins_in front.bins (take (32 * front.bins) bytes))
 
 -- what the bytes behind the first 24 say in a file of this size
 unfoldable pub parts_in : ℕ → Front → List ℕ → Result Head IndexFault
@@ -138,6 +138,13 @@ abbrev pub opened_index : Result (Option IndexHead) IndexFault → Result (Optio
 opened_index (Ok None) = Ok None
 opened_index (Ok (Some head)) = Ok (Some (record { spec = head.spec; bins = head.bins; places = head.offsets }))
 opened_index (Err why) = Err why
+
+-- the head has the sizes that its first bytes say, and its last place is where the file ends
+pub record HasSizes (front : Front) (size spec edges : ℕ) (places : List ℕ) : Type 0 where
+  pub text : spec ≡ front.text
+  pub bins : edges ≡ front.bins
+  pub bitmaps : length places ≡ front.bitmaps + 1
+  pub last : last_place places ≡ size
 
 -- ---- what a call may answer
 

@@ -38,6 +38,10 @@ first_wrong_place head size [] = Some 0
 first_wrong_place head size (place ∷ places) =
     if place == head then or_else (option_map suc (first_close place places)) (if last_from place places == size then None else Some (length places)) else Some 0
 
--- the read of the bitmap of a number
+-- how many bytes the bitmap of a number has
+abbrev pub room_at : List ℕ → ℕ → ℕ
+room_at places k = slice_index places (k + 1) - slice_index places k
+
+-- the read of that bitmap
 abbrev pub bitmap_look : List ℕ → List ℕ → ℕ → Look
-bitmap_look name places k = record { name = name; offset = slice_index places k; room = slice_index places (k + 1) - slice_index places k }
+bitmap_look name places k = record { name = name; offset = slice_index places k; room = room_at places k }

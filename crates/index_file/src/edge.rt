@@ -1,6 +1,7 @@
 //! The bins of an index by their ends.
 
 ghost use Rattle.std.specs.Prelude.{◌≡◌, ◌+◌, ◌*◌, ◌^◌, ◌<◌, None, Some, IfErr, IfOk, IfSome, length};
+ghost use Rattle.index_file.specs.IndexFile.{edges_bytes};
 ghost use Rattle.index_file.specs.Opening.{IsAnswer, StopsParts, bins_in, edge_at, edges_at};
 ghost use Rattle.index_file.specs.Order.{first_misplaced, first_out_of_order};
 
@@ -23,6 +24,9 @@ pub(crate) fn bins_of(
 ) -> Result<Items<Edge>, IndexFault>
     requires { length bytes.now ≡ 32 * count }
     ensures exact { IsAnswer result (bins_in count bytes.now) }
+    ensures ordered { IfOk result (λ bins. first_out_of_order bins ≡ None) }
+    ensures spelled { IfOk result (λ bins. edges_bytes bins ≡ bytes.now) }
+    ensures len { IfOk result (λ bins. length bins ≡ count) }
     ensures stop { IfErr result StopsParts }
 {
     let Ok(edges) = edges_of(alloc, bytes, count) else {

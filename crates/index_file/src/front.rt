@@ -10,7 +10,7 @@ use crate::numbers::number_at;
 
 pub(crate) const FRONT_BYTES: usize = 24;
 
-const VERSION: u32 = 1;
+pub(crate) const VERSION: u32 = 1;
 
 /// How many bins, bitmaps and bytes of a specification an index file says that it has.
 #[derive(Clone, Copy, Debug, PartialEq, Eq)]

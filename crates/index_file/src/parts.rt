@@ -1,13 +1,12 @@
 //! What stands behind the first 24 bytes of an index file's head.
 
-ghost use Rattle.std.specs.Prelude.{◌≡◌, ◌+◌, ◌-◌, ◌*◌, None, Some, Ok, Err, IfErr, IfOk, length};
+ghost use Rattle.std.specs.Prelude.{◌≡◌, Some, Ok, IfErr, IfOk, OnOk, length};
 ghost use Rattle.index_spec.specs.Counts.{HasGroups, bitmap_count};
-ghost use Rattle.index_spec.specs.Language.{IsGiven, spec_of};
+ghost use Rattle.index_spec.specs.Language.{spec_of};
 ghost use Rattle.index_spec.specs.Printed.{printed};
-ghost use Rattle.index_file.specs.Front.{rest_size, size_of};
+ghost use Rattle.index_file.specs.Front.{rest_size};
 ghost use Rattle.index_file.specs.IndexFile.{parts_bytes};
-ghost use Rattle.index_file.specs.Opening.{IsAnswer, StopsParts, opened_head, parts_in, spec_in, tested};
-ghost use Rattle.index_file.specs.Places.{last_place};
+ghost use Rattle.index_file.specs.Opening.{HasSizes, IsAnswer, StopsParts, opened_head, parts_in, spec_in, tested};
 
 use crate::edge::bins_of;
 use crate::fault::IndexFault;
@@ -31,6 +30,8 @@ pub(crate) fn head_of(
     requires { length bytes.now ≡ rest_size front }
     ensures named { IfOk result (λ head. (head.name ≡ name.now) × (head.rows ≡ rows)) }
     ensures exact { IsAnswer (opened_head result) (parts_in size front bytes.now) }
+    ensures spelled { IfOk result (λ head. bytes.now ≡ parts_bytes (printed head.spec) head.bins head.offsets) }
+    ensures sizes { IfOk result (λ head. HasSizes front size (length (printed head.spec)) (length head.bins) head.offsets) }
     ensures stop { IfErr result StopsParts }
 {
     let (text, rest) = bytes.split_at(front.text as usize);
@@ -55,6 +56,7 @@ pub(crate) fn head_of(
 fn check_count(spec: &Spec, front: Front) -> Result<(), IndexFault>
     requires { HasGroups spec.now.encoding }
     ensures exact { result ≡ tested (bitmap_count spec.now.encoding front.bins) front.bitmaps }
+    ensures counted { OnOk result (bitmap_count spec.now.encoding front.bins ≡ Some front.bitmaps) }
     ensures stop { IfErr result StopsParts }
 {
     let have = u64::from(front.bitmaps);

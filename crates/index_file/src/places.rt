@@ -2,6 +2,7 @@
 
 ghost use Rattle.std.specs.Prelude.{◌≡◌, ◌+◌, ◌*◌, ◌^◌, ◌<◌, ◌≤◌, None, Some, IfErr, IfOk, IfSome, length};
 ghost use Rattle.std.specs.List.{flat_map};
+ghost use Rattle.index_file.specs.IndexFile.{places_bytes};
 ghost use Rattle.index_file.specs.Opening.{IsAnswer, StopsParts, places_at, places_in};
 ghost use Rattle.index_file.specs.Places.{first_close, first_wrong_place, last_from, places_from};
 
@@ -40,6 +41,9 @@ pub(crate) fn offsets_of(
 ) -> Result<Items<u64>, IndexFault>
     requires { length bytes.now ≡ 8 * (bitmaps + 1) }
     ensures exact { IsAnswer result (places_in head size bitmaps bytes.now) }
+    ensures placed { IfOk result (λ places. first_wrong_place head size places ≡ None) }
+    ensures spelled { IfOk result (λ places. places_bytes places ≡ bytes.now) }
+    ensures len { IfOk result (λ places. length places ≡ bitmaps + 1) }
     ensures stop { IfErr result StopsParts }
 {
     let Ok(places) = places_of(alloc, bytes, bitmaps) else {
@@ -103,8 +107,9 @@ fn close(before: u64, places: &[u64]) -> Option<u32>
 fn last(first: u64, later: &[u64]) -> u64
     ensures { result ≡ last_from first later.now }
 {
-    match later {
-        [] => first,
-        [.., last] => *last,
+    if later.is_empty() {
+        first
+    } else {
+        later[later.len() - 1]
     }
 }

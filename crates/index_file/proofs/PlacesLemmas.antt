@@ -3,6 +3,7 @@ use Rattle.std.proofs.Common.{◌≡◌, ℕ, zero, suc, ◌+◌, ◌-◌, ◌*�
 use Rattle.std.specs.List.{flat_map}
 use Rattle.std.proofs.Math.Seq.{take-suc}
 use Rattle.std.proofs.lemmas.Bool.{eqb-true, ltb-false}
+use Rattle.std.proofs.lemmas.List.Sums.{sum_by-take-le}
 use Rattle.wah_words.specs.Bytes.{spelling}
 use Rattle.wah_words.specs.Limits.{most_bits}
 use Rattle.wah_words.specs.Spelling.{words_of}
@@ -133,6 +134,10 @@ places_below head size places k h within = let more = places_apart head size pla
 -- ---- looks at words
 
 pub words_taken : (bitmaps : List (List Bool)) (i : ℕ) → sum_by words_of (take i bitmaps) ≤ sum_by words_of bitmaps
-words_taken bitmaps zero = omega arith
-words_taken [] (suc i) = omega arith
-words_taken (b ∷ bs) (suc i) = let more = words_taken bs i in omega arith
+words_taken bitmaps i = sum_by-take-le words_of bitmaps i
+
+-- ---- how many places
+
+pub length-places : (start : ℕ) (bitmaps : List (List Bool)) → length (places_from start bitmaps) ≡ length bitmaps + 1
+length-places start [] = refl
+length-places start (b ∷ bs) = omega (arith, length-places (start + length (spelling b)) bs)

@@ -7,7 +7,7 @@ use Rattle.index_spec.specs.Language.{spec_of}
 use Rattle.index_spec.specs.Printed.{printed}
 use Rattle.index_spec.specs.declared.spec.Spec.{Spec}
 use Rattle.index_spec.specs.declared.spec.SpecKind.{SpecKind}
-use Rattle.fb_outside.specs.Files.{Files, file_at}
+use Rattle.fb_outside.specs.Files.{Files, told_at}
 use Rattle.fb_outside.specs.Reads.{Look}
 use Rattle.index_file.specs.Order.{first_out_of_order}
 use Rattle.index_file.specs.Places.{first_wrong_place, last_place}
@@ -110,15 +110,18 @@ abbrev pub rest_in : ℕ → Front → List ℕ → Result (List ℕ) IndexFault
 rest_in size front bytes =
     if nat_lt size (size_of front) then Err fault.Short else if length bytes == rest_size front then Ok bytes else Err fault.Short
 
--- the same of the whole file, where the first 24 bytes say this
-abbrev pub with_front : List ℕ → Result Front IndexFault → Result Head IndexFault
-with_front bytes (Err why) = Err why
-with_front bytes (Ok front) =
-    if nat_lt (length bytes) (size_of front) then Err fault.Short else parts_in (length bytes) front (take (rest_size front) (drop 24 bytes))
+abbrev pub with_rest : ℕ → Front → Result (List ℕ) IndexFault → Result Head IndexFault
+with_rest size front (Err why) = Err why
+with_rest size front (Ok bytes) = parts_in size front bytes
+
+-- what a head says in a file of this size, where its first 24 bytes say this, and the bytes behind them are given
+abbrev pub with_front : ℕ → (Front → List ℕ) → Result Front IndexFault → Result Head IndexFault
+with_front size behind (Err why) = Err why
+with_front size behind (Ok front) = with_rest size front (rest_in size front (behind front))
 
 -- what a file's head says of an index of so many rows, or the first fault
-unfoldable pub head_in : ℕ → List ℕ → Result Head IndexFault
-head_in rows bytes = with_front bytes (front_in rows (take 24 bytes))
+abbrev pub head_in : ℕ → List ℕ → Result Head IndexFault
+head_in rows bytes = with_front (length bytes) (λ front. take (rest_size front) (drop 24 bytes)) (front_in rows (take 24 bytes))
 
 abbrev pub some_head : Result Head IndexFault → Result (Option Head) IndexFault
 some_head (Ok head) = Ok (Some head)
@@ -194,5 +197,5 @@ rest_look name front = record { name = name; offset = 24; room = rest_size front
 -- a read of this file that ends within its first 24 bytes, or within the head whose length these give
 pub record IsHeadLook (files : Option Files) (name : List ℕ) (look : Look) : Type 0 where
   pub of_it : look.name ≡ name
-  pub within : (m : Files) (bytes : List ℕ) → files ≡ Some m → file_at m name ≡ Some bytes
+  pub within : (bytes : List ℕ) → told_at files name ≡ Some bytes
     → (look.offset + look.room ≤ 24) ⊎ (look.offset + look.room ≤ size_of (sizes_at (take 24 bytes)))

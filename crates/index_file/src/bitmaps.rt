@@ -1,16 +1,13 @@
 //! Bitmaps of an opened index file, each read by itself.
 
-ghost use Rattle.std.specs.Prelude.{◌≡◌, ◌+◌, ◌-◌, ◌<◌, ◌≤◌, ℕ, Bool, List, None, Ok, Some, IfErr, IfOk, IfSome, IsErrOf, length, slice_get, slice_index};
+ghost use Rattle.std.specs.Prelude.{◌≡◌, ◌+◌, ◌<◌, None, IfErr, IfOk, IfSome, IsErrOf, length, slice_index};
 ghost use Rattle.fb_outside.specs.Causes.{HasCause};
-ghost use Rattle.fb_outside.specs.Files.{SameFiles, bytes_at, told_at};
+ghost use Rattle.fb_outside.specs.Files.{SameFiles, bytes_at};
 ghost use Rattle.fb_outside.specs.Reads.{AddsRead};
-ghost use Rattle.index_spec.specs.declared.spec.Spec.{Spec};
 ghost use Rattle.wah_words.specs.Bytes.{spelling, vector_at};
 ghost use Rattle.index_file.specs.Fetching.{StopsFetching, bitmap_in, room_in, to_its_end};
-ghost use Rattle.index_file.specs.IndexFile.{index_bytes, places_of};
 ghost use Rattle.index_file.specs.Opening.{IsAnswer, listed};
 ghost use Rattle.index_file.specs.Places.{bitmap_look, room_at};
-ghost use Rattle.index_file.specs.declared.edge.Edge.{Edge};
 
 use crate::fault::IndexFault;
 use crate::head::IndexHead;
@@ -34,37 +31,12 @@ pub fn fetch<S: Store>(
     ensures exact { IfSome (S.files store.old) (λ m. IsAnswer result (bitmap_in k head.now.rows (room_at head.now.offsets k)
         (bytes_at m head.now.name (slice_index head.now.offsets k) (room_at head.now.offsets k)))) }
 
-    // Without the definitions of the faults: a bitmap that is fetched is spelled there, and what is spelled there is fetched.
+    // Without the definitions of the faults: a bitmap that is fetched is spelled there.
     ensures found { IfOk result (λ bits. IfSome (S.files store.old) (λ m.
         bytes_at m head.now.name (slice_index head.now.offsets k) (room_at head.now.offsets k) ≡ spelling bits)) }
-    ensures written { (rows : ℕ) (spec : Spec) (edges : List Edge) (bitmaps : List (List Bool)) (bits : List Bool)
-        → told_at (S.files store.old) head.now.name ≡ Some (index_bytes rows spec edges bitmaps) → head.now.offsets ≡ places_of spec edges bitmaps
-        → slice_get bitmaps k ≡ Some bits → length bits ≡ head.now.rows → length bits ≤ 4194304 → IsAnswer result (Ok bits) }
     ensures files { SameFiles (S.files store.old) (S.files store.new) }
 
     // One read of just these bytes; it may be wanting where memory runs out.
-    ensures once { (IsErrOf result IndexFault.OutOfMemory → ⊥)
-        → AddsRead (S.files store.old) (S.reads store.old) (S.reads store.new) (bitmap_look head.now.name head.now.offsets k) }
-    ensures reads { AddsRead None (S.reads store.old) (S.reads store.new) (bitmap_look head.now.name head.now.offsets k) }
-{
-    fetch_at(alloc, store, head, k)
-}
-
-fn fetch_at<S: Store>(
-    alloc: Global,
-    store: &mut S,
-    head: &IndexHead,
-    k: u32,
-) -> Result<Wah, IndexFault>
-    requires { k + 1 < length head.now.offsets }
-    ensures cause { HasCause (S.faults store.old) (S.faults store.new) (IsErrOf result IndexFault.Store) }
-    ensures rows { IfOk result (λ bits. length bits ≡ head.now.rows) }
-    ensures stop { IfErr result (StopsFetching k) }
-    ensures exact { IfSome (S.files store.old) (λ m. IsAnswer result (bitmap_in k head.now.rows (room_at head.now.offsets k)
-        (bytes_at m head.now.name (slice_index head.now.offsets k) (room_at head.now.offsets k)))) }
-    ensures found { IfOk result (λ bits. IfSome (S.files store.old) (λ m.
-        bytes_at m head.now.name (slice_index head.now.offsets k) (room_at head.now.offsets k) ≡ spelling bits)) }
-    ensures files { SameFiles (S.files store.old) (S.files store.new) }
     ensures once { (IsErrOf result IndexFault.OutOfMemory → ⊥)
         → AddsRead (S.files store.old) (S.reads store.old) (S.reads store.new) (bitmap_look head.now.name head.now.offsets k) }
     ensures reads { AddsRead None (S.reads store.old) (S.reads store.new) (bitmap_look head.now.name head.now.offsets k) }

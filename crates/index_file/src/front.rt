@@ -1,6 +1,6 @@
 //! The first 24 bytes of an index file.
 
-ghost use Rattle.std.specs.Prelude.{◌≡◌, ◌<◌, ◌^◌, ◌≤◌, IfErr, IfOk, length, take};
+ghost use Rattle.std.specs.Prelude.{◌≡◌, ◌≤◌, IfErr, IfOk, IsErrOf, length};
 ghost use Rattle.index_file.specs.Front.{front_in, size_of};
 ghost use Rattle.index_file.specs.IndexFile.{front_bytes};
 ghost use Rattle.index_file.specs.Opening.{StopsFront};
@@ -30,10 +30,20 @@ impl Front {
 }
 
 /// What the first bytes of an index of so many rows say.
-#[tactic(auto, unfolding(crate::specs::Front::front_in))]
 pub(crate) fn front_of(bytes: &[u8], rows: u32) -> Result<Front, IndexFault>
     ensures exact { result ≡ front_in rows bytes.now }
+    ensures spelled { length bytes.now ≤ 24 → IfOk result (λ front. bytes.now ≡ front_bytes rows front.bins front.bitmaps front.text) }
     ensures stop { IfErr result (StopsFront rows) }
+    ensures unfailed { IsErrOf result IndexFault.Store → ⊥ }
+{
+    sizes_of(bytes, rows)
+}
+
+#[tactic(auto, unfolding(crate::specs::Front::front_in))]
+fn sizes_of(bytes: &[u8], rows: u32) -> Result<Front, IndexFault>
+    ensures exact { result ≡ front_in rows bytes.now }
+    ensures stop { IfErr result (StopsFront rows) }
+    ensures unfailed { IsErrOf result IndexFault.Store → ⊥ }
 {
     if bytes.len() < FRONT_BYTES {
         return Err(IndexFault::Short);

@@ -1,16 +1,13 @@
 //! Index files opened by their heads.
 
-ghost use Rattle.std.specs.Prelude.{◌≡◌, ◌+◌, ◌<◌, ◌≤◌, ◌^◌, [], ◌∷◌, ℕ, Bool, List, None, Ok, Some, IfErr, IfOk, IfSome, IsErrOf, OnOk, length, take};
-ghost use Rattle.std.specs.List.{AllByRecursion};
+ghost use Rattle.std.specs.Prelude.{◌≡◌, ◌≤◌, None, IfErr, IfOk, IfSome, IsErrOf, OnOk, length, option_map, slice_index};
 ghost use Rattle.fb_outside.specs.Causes.{HasCause};
-ghost use Rattle.fb_outside.specs.Files.{SameFiles, bytes_at, file_at, told_at};
+ghost use Rattle.fb_outside.specs.Files.{SameFiles, bytes_at, file_at};
 ghost use Rattle.fb_outside.specs.Reads.{AddsOnly, AddsRead};
 ghost use Rattle.index_spec.specs.Printed.{printed};
-ghost use Rattle.index_spec.specs.declared.spec.Spec.{Spec};
 ghost use Rattle.index_file.specs.Front.{front_in, rest_size, size_of};
-ghost use Rattle.index_file.specs.IndexFile.{EdgeFits, IsIndex, front_bytes, head_bytes, index_bytes, places_of};
-ghost use Rattle.index_file.specs.Opening.{IsAnswer, IsHeadLook, StopsFront, StopsOpening, StopsRest, front_look, head_in, index_in, listed, opened_head, opened_index, rest_in, rest_look};
-ghost use Rattle.index_file.specs.declared.edge.Edge.{Edge};
+ghost use Rattle.index_file.specs.IndexFile.{front_bytes, head_bytes};
+ghost use Rattle.index_file.specs.Opening.{IsAnswer, IsHeadLook, StopsFront, StopsOpening, StopsRest, front_look, index_in, listed, opened_index, rest_in, rest_look, some_head, with_front};
 
 use crate::fault::IndexFault;
 use crate::front::{FRONT_BYTES, Front, front_of};
@@ -33,38 +30,55 @@ pub fn open_index<S: Store>(
 
     // The file's head is that of such an index, or has a first fault.
     ensures exact { IfSome (S.files store.old) (λ m. IsAnswer (opened_index result) (index_in rows (file_at m name.now))) }
+
+    // Without the definitions of the faults: a file that is opened begins with the head's bytes.
+    ensures found { IfOk result (λ index. IfSome index (λ head. IfSome (S.files store.old) (λ m.
+        bytes_at m name.now 0 (slice_index head.offsets 0) ≡ head_bytes rows (printed head.spec) head.bins head.offsets))) }
     ensures files { SameFiles (S.files store.old) (S.files store.new) }
     ensures reads { AddsOnly (IsHeadLook (S.files store.old) name.now) (S.reads store.old) (S.reads store.new) }
 {
+    match file_size(store, name)? {
+        Some(size) => open_sized(alloc, store, name, rows, size),
+        None => Ok(None),
+    }
+}
+
+/// The bytes of the file, or None where there is no such file.
+fn file_size<S: Store>(store: &mut S, name: &FileName) -> Result<Option<u64>, IndexFault>
+    ensures cause { HasCause (S.faults store.old) (S.faults store.new) (IsErrOf result IndexFault.Store) }
+    ensures size { IfOk result (λ size. IfSome (S.files store.old) (λ m. size ≡ option_map length (file_at m name.now))) }
+    ensures stop { IfErr result (λ fault. fault ≡ IndexFault.Store) }
+    ensures files { SameFiles (S.files store.old) (S.files store.new) }
+    ensures reads { S.reads store.new ≡ S.reads store.old }
+{
     match store.len(name.as_str()) {
-        Ok(Some(size)) => match open_sized(alloc, store, name, rows, size) {
-            Ok(head) => Ok(Some(head)),
-            Err(fault) => Err(fault),
-        },
-        Ok(None) => Ok(None),
+        Ok(size) => Ok(size),
         Err(_) => Err(IndexFault::Store),
     }
 }
 
-/// The head of a file of this size.
+/// The index in a file of this size.
 fn open_sized<S: Store>(
     alloc: Global,
     store: &mut S,
     name: &FileName,
     rows: u32,
     size: u64,
-) -> Result<IndexHead, IndexFault>
+) -> Result<Option<IndexHead>, IndexFault>
     ensures cause { HasCause (S.faults store.old) (S.faults store.new) (IsErrOf result IndexFault.Store) }
-    ensures named { IfOk result (λ head. (head.name ≡ name.now) × (head.rows ≡ rows)) }
+    ensures named { IfOk result (λ index. IfSome index (λ head. (head.name ≡ name.now) × (head.rows ≡ rows))) }
     ensures stop { IfErr result (StopsOpening rows) }
-    ensures exact { (bytes : List ℕ) → told_at (S.files store.old) name.now ≡ Some bytes → length bytes ≡ size
-        → IsAnswer (opened_head result) (head_in rows bytes) }
+    ensures exact { IfSome (S.files store.old) (λ m. IsAnswer (opened_index result)
+        (some_head (with_front size (λ front. bytes_at m name.now 24 (rest_size front)) (front_in rows (bytes_at m name.now 0 24))))) }
+    ensures found { IfOk result (λ index. IfSome index (λ head. IfSome (S.files store.old) (λ m.
+        bytes_at m name.now 0 (slice_index head.offsets 0) ≡ head_bytes rows (printed head.spec) head.bins head.offsets))) }
     ensures files { SameFiles (S.files store.old) (S.files store.new) }
     ensures reads { AddsOnly (IsHeadLook (S.files store.old) name.now) (S.reads store.old) (S.reads store.new) }
 {
     let front = read_front(store, name, rows)?;
     let rest = read_rest(alloc, store, name, front, size)?;
-    head_of(alloc, name, rows, size, front, &rest)
+    let head = head_of(alloc, name, rows, size, front, &rest)?;
+    Ok(Some(head))
 }
 
 /// What the first 24 bytes say of an index of so many rows.
@@ -76,6 +90,7 @@ fn read_front<S: Store>(
     ensures cause { HasCause (S.faults store.old) (S.faults store.new) (IsErrOf result IndexFault.Store) }
     ensures stop { IfErr result (StopsFront rows) }
     ensures exact { IfSome (S.files store.old) (λ m. IsAnswer result (front_in rows (bytes_at m name.now 0 24))) }
+    ensures spelled { IfOk result (λ front. IfSome (S.files store.old) (λ m. bytes_at m name.now 0 24 ≡ front_bytes rows front.bins front.bitmaps front.text)) }
     ensures files { SameFiles (S.files store.old) (S.files store.new) }
     ensures reads { AddsRead (S.files store.old) (S.reads store.old) (S.reads store.new) (front_look name.now) }
 {
@@ -97,6 +112,7 @@ fn read_rest<S: Store>(
 ) -> Result<Vec<u8>, IndexFault>
     ensures cause { HasCause (S.faults store.old) (S.faults store.new) (IsErrOf result IndexFault.Store) }
     ensures len { IfOk result (λ bytes. length bytes.items ≡ rest_size front) }
+    ensures given { IfOk result (λ bytes. IfSome (S.files store.old) (λ m. bytes_at m name.now 24 (rest_size front) ≡ bytes.items)) }
     ensures within { OnOk result (size_of front ≤ size) }
     ensures stop { IfErr result StopsRest }
     ensures exact { IfSome (S.files store.old) (λ m. IsAnswer (listed result) (rest_in size front (bytes_at m name.now 24 (rest_size front)))) }

@@ -7,7 +7,7 @@ ghost use Rattle.fb_outside.specs.Files.{PutLeaves, Puts, SameFiles};
 ghost use Rattle.wah_words.specs.Bytes.{spelling};
 ghost use Rattle.wah_words.specs.Spelling.{words_of};
 ghost use Rattle.index_file.specs.Fetching.{StopsWriting};
-ghost use Rattle.index_file.specs.IndexFile.{IsIndex, edges_bytes, front_bytes, head_bytes, index_bytes, places_bytes};
+ghost use Rattle.index_file.specs.IndexFile.{IsIndex, edge_bytes, edges_bytes, front_bytes, head_bytes, index_bytes, places_bytes};
 
 use crate::edge::Edge;
 use crate::fault::IndexFault;
@@ -121,9 +121,16 @@ fn push_edges(bytes: &mut Vec<u8>, edges: &[Edge]) -> Result<(), AllocError>
     ensures { OnOk result (bytes.new.items ≡ bytes.old.items ++ edges_bytes edges.now) }
 {
     for edge in edges {
-        push_i128(bytes, edge.least)?;
-        push_i128(bytes, edge.greatest)?;
+        push_edge(bytes, *edge)?;
     }
+    Ok(())
+}
+
+fn push_edge(bytes: &mut Vec<u8>, edge: Edge) -> Result<(), AllocError>
+    ensures { OnOk result (bytes.new.items ≡ bytes.old.items ++ edge_bytes edge) }
+{
+    push_i128(bytes, edge.least)?;
+    push_i128(bytes, edge.greatest)?;
     Ok(())
 }
 
@@ -138,6 +145,7 @@ fn push_places(bytes: &mut Vec<u8>, places: &[u64]) -> Result<(), AllocError>
 }
 
 /// Spells the vectors, one after another.
+#[tactic(auto, using(crate::proofs::PlacesLemmas::words_taken))]
 fn push_bitmaps<L: Ledger>(
     alloc: Global,
     bytes: &mut Vec<u8>,

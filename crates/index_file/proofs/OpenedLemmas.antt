@@ -10,6 +10,8 @@ use Rattle.index_file.specs.Front.{front_in, number_at, of_rows, of_version, res
 use Rattle.index_file.specs.IndexFile.{front_bytes, head_bytes, magic, parts_bytes}
 use Rattle.index_file.specs.declared.edge.Edge.{Edge}
 use Rattle.index_file.specs.Opening.{HasSizes, Head, IsAnswer, IsHeadLook, front_look, head_in, index_in, rest_look, some_head, with_front}
+use Rattle.index_file.specs.Places.{first_wrong_place, head_size, last_place}
+use Rattle.index_file.proofs.PlacesLemmas.{places_right}
 use Rattle.index_file.specs.declared.front.Front.{Front}
 use Rattle.index_file.specs.declared.fault.IndexFault.{IndexFault}
 use Rattle.index_file.specs.declared.fault.IndexFault.TheVariants as fault
@@ -115,3 +117,19 @@ head_looks files name rows front old mid new says first second =
 
 pub front_looks : (files : Option Files) (name : List ℕ) (old mid : Option (List Look)) → AddsRead files old mid (front_look name) → AddsOnly (IsHeadLook files name) old mid
 front_looks files name old mid first = AddsOnly-read (IsHeadLook files name) files old mid (front_look name) (front_within files name) first
+
+-- the same bytes by another name, of files that stayed
+pub same_bytes : (old new : Option Files) (name : List ℕ) (at most : ℕ) (items parts : List ℕ) → new ≡ old → items ≡ parts
+    → IfSome new (λ m. bytes_at m name at most ≡ items) → IfSome old (λ m. bytes_at m name at most ≡ parts)
+same_bytes old new name at most items parts stayed same h =
+    subst (λ f. IfSome f (λ m. bytes_at m name at most ≡ parts)) stayed (subst (λ l. IfSome new (λ m. bytes_at m name at most ≡ l)) same h)
+
+-- the bitmaps begin where the head ends
+pub start_is : (front : Front) (size text bins : ℕ) (places : List ℕ) → HasSizes front size text bins places
+    → first_wrong_place (head_size text bins (length places - 1)) (last_place places) places ≡ None → get_or places 0 0 ≡ size_of front
+start_is front size text bins places sizes right =
+    let first = (places_right (head_size text bins (length places - 1)) (last_place places) places right).first in
+    let t = sizes.text in
+    let b = sizes.bins in
+    let m = sizes.bitmaps in
+    omega arith

@@ -11,6 +11,8 @@ mod numbers;
 mod opening;
 mod parts;
 mod places;
+#[cfg(test)]
+mod tests;
 mod writing;
 
 pub use bitmaps::fetch;

@@ -40,7 +40,7 @@ edge_again edge h =
     let first = take-front 16 (end_bytes edge.least) (end_bytes edge.greatest) (length-end edge.least) in
     let rest = drop-front 16 (end_bytes edge.least) (end_bytes edge.greatest) (length-end edge.least) in
     let all : take 16 (end_bytes edge.greatest) ≡ end_bytes edge.greatest =
-        ap (take 16) (sym (append-nil (end_bytes edge.greatest))) ∙ take-front 16 (end_bytes edge.greatest) [] (length-end edge.greatest) in
+    ap (take 16) (sym (append-nil (end_bytes edge.greatest))) ∙ take-front 16 (end_bytes edge.greatest) [] (length-end edge.greatest) in
     let least : end_at (take 16 (edge_bytes edge)) ≡ edge.least = ap end_at first ∙ end_again edge.least h.0 in
     let greatest : end_at (take 16 (drop 16 (edge_bytes edge))) ≡ edge.greatest = ap (λ bs. end_at (take 16 bs)) rest ∙ ap end_at all ∙ end_again edge.greatest h.1 in
     λ i. record { least = least i; greatest = greatest i }
@@ -50,7 +50,7 @@ edge_back bytes l h =
     let first : length (take 16 bytes) ≡ 16 = length-take-le 16 bytes (omega arith) in
     let half : length (drop 16 bytes) ≡ 16 = omega (arith, length-drop 16 bytes) in
     let all : take 16 (drop 16 bytes) ≡ drop 16 bytes =
-        ap (take 16) (sym (append-nil (drop 16 bytes))) ∙ take-front 16 (drop 16 bytes) [] half in
+    ap (take 16) (sym (append-nil (drop 16 bytes))) ∙ take-front 16 (drop 16 bytes) [] half in
     ap (λ x. x ++ end_bytes (end_at (take 16 (drop 16 bytes)))) (end_back (take 16 bytes) first (AreBytes-take 16 bytes h))
     ∙ ap (λ x. take 16 bytes ++ end_bytes (end_at x)) all
     ∙ ap (λ x. take 16 bytes ++ x) (end_back (drop 16 bytes) half (AreBytes-drop 16 bytes h))

@@ -67,13 +67,13 @@ front_spelled rows bytes front h short is =
     let text : drop 20 bytes ≡ le (number_at 20 bytes) = number_then 20 bytes h (omega arith) ∙ ap (λ more. le (number_at 20 bytes) ++ more) none ∙ append-nil (le (number_at 20 bytes)) in
     let bitmaps : drop 16 bytes ≡ le (number_at 16 bytes) ++ le (number_at 20 bytes) = number_then 16 bytes h (omega arith) ∙ ap (λ more. le (number_at 16 bytes) ++ more) text in
     let bins : drop 12 bytes ≡ le (number_at 12 bytes) ++ (le (number_at 16 bytes) ++ le (number_at 20 bytes)) =
-        number_then 12 bytes h (omega arith) ∙ ap (λ more. le (number_at 12 bytes) ++ more) bitmaps in
+    number_then 12 bytes h (omega arith) ∙ ap (λ more. le (number_at 12 bytes) ++ more) bitmaps in
     let count : drop 8 bytes ≡ le rows ++ (le (number_at 12 bytes) ++ (le (number_at 16 bytes) ++ le (number_at 20 bytes))) =
-        number_then 8 bytes h (omega arith) ∙ ap (λ more. le (number_at 8 bytes) ++ more) bins
-        ∙ ap (λ n. le n ++ (le (number_at 12 bytes) ++ (le (number_at 16 bytes) ++ le (number_at 20 bytes)))) said.of in
+    number_then 8 bytes h (omega arith) ∙ ap (λ more. le (number_at 8 bytes) ++ more) bins
+    ∙ ap (λ n. le n ++ (le (number_at 12 bytes) ++ (le (number_at 16 bytes) ++ le (number_at 20 bytes)))) said.of in
     let version : drop 4 bytes ≡ le 1 ++ (le rows ++ (le (number_at 12 bytes) ++ (le (number_at 16 bytes) ++ le (number_at 20 bytes)))) =
-        number_then 4 bytes h (omega arith) ∙ ap (λ more. le (number_at 4 bytes) ++ more) count
-        ∙ ap (λ n. le n ++ (le rows ++ (le (number_at 12 bytes) ++ (le (number_at 16 bytes) ++ le (number_at 20 bytes))))) said.version in
+    number_then 4 bytes h (omega arith) ∙ ap (λ more. le (number_at 4 bytes) ++ more) count
+    ∙ ap (λ n. le n ++ (le rows ++ (le (number_at 12 bytes) ++ (le (number_at 16 bytes) ++ le (number_at 20 bytes))))) said.version in
     sym (take-append-drop 4 bytes) ∙ ap (λ more. take 4 bytes ++ more) version
     ∙ ap (λ w. w ++ (le 1 ++ (le rows ++ (le (number_at 12 bytes) ++ (le (number_at 16 bytes) ++ le (number_at 20 bytes)))))) said.word
     ∙ ap (λ f. magic ++ (le 1 ++ (le rows ++ (le f.bins ++ (le f.bitmaps ++ le f.text))))) (sym said.sizes)

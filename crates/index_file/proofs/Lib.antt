@@ -4,5 +4,6 @@ pub mod FrontLemmas
 pub mod PartLemmas
 pub mod SpecTextLemmas
 pub mod PlacesLemmas
+pub mod OrderLemmas
 pub mod OpenedLemmas
 pub mod WrittenLemmas

@@ -9,7 +9,7 @@ use Rattle.fb_outside.proofs.ReadLemmas.{AddsOnly-read, AddsOnly-trans}
 use Rattle.index_file.specs.Front.{front_in, number_at, of_rows, of_version, rest_size, size_of, sizes_at}
 use Rattle.index_file.specs.IndexFile.{front_bytes, head_bytes, magic, parts_bytes}
 use Rattle.index_file.specs.declared.edge.Edge.{Edge}
-use Rattle.index_file.specs.Opening.{HasSizes, Head, IsAnswer, IsHeadLook, front_look, head_in, index_in, rest_look, some_head, with_front}
+use Rattle.index_file.specs.Opening.{EndsBy, HasSizes, Head, IsAnswer, IsHeadLook, front_look, head_in, index_in, rest_look, some_head, with_front}
 use Rattle.index_file.specs.Places.{first_wrong_place, head_size, last_place}
 use Rattle.index_file.proofs.PlacesLemmas.{places_right}
 use Rattle.index_file.specs.declared.front.Front.{Front}
@@ -133,3 +133,11 @@ start_is front size text bins places sizes right =
     let b = sizes.bins in
     let m = sizes.bitmaps in
     omega arith
+
+-- both reads of a head end where it ends
+pub head_ends : (files : Option Files) (name : List ℕ) (front : Front) (place : ℕ) (old mid new : Option (List Look)) → place ≡ size_of front
+    → AddsRead files old mid (front_look name) → AddsRead None mid new (rest_look name front) → AddsOnly (EndsBy name place) old new
+head_ends files name front place old mid new is first second =
+    AddsOnly-trans (EndsBy name place) old mid new
+    (AddsOnly-read (EndsBy name place) files old mid (front_look name) (record { of_it = refl; within = omega arith }) first)
+    (AddsOnly-read (EndsBy name place) None mid new (rest_look name front) (record { of_it = refl; within = omega arith }) second)

@@ -9,7 +9,7 @@ use Rattle.wah_words.specs.Limits.{most_bits}
 use Rattle.wah_words.specs.Spelling.{words_of}
 use Rattle.wah_words.proofs.BytesLemmas.{length-spelling}
 use Rattle.wah_words.proofs.SpellingLemmas.{words_of_le}
-use Rattle.index_file.specs.Places.{first_close, first_wrong_place, last_from, last_place, or_else, places_from}
+use Rattle.index_file.specs.Places.{ArePlaced, first_close, first_wrong_place, last_from, last_place, or_else, places_from}
 
 -- ---- bytes of one element more
 
@@ -52,13 +52,14 @@ pub places_pushed : (start : ℕ) (bitmaps : List (List Bool)) (i : ℕ) (bits :
 places_pushed start bitmaps i bits at h is ends =
     let more = one_more spelling bitmaps i bits h is in
     let sizes : length (flat_map spelling (take (i + 1) bitmaps)) ≡ length (flat_map spelling (take i bitmaps)) + length (spelling bits)
-        = ap length more ∙ length-append (flat_map spelling (take i bitmaps)) (spelling bits) in
+    = ap length more ∙ length-append (flat_map spelling (take i bitmaps)) (spelling bits) in
     let size = length-spelling bits in
     let next : at + (8 + 4 * words_of bits) ≡ start + length (flat_map spelling (take (i + 1) bitmaps)) = omega arith in
-    let added = item_at bitmaps i bits h is in
-    (next,
-    ap (λ n. places_from start (take i bitmaps) ++ n ∷ []) (next ∙ ap (λ bs. start + length (flat_map spelling bs)) added)
-    ∙ sym (places_from-append start (take i bitmaps) bits) ∙ ap (places_from start) (sym added))
+    let added = item_at bitmaps i bits h is in (
+      next,
+      ap (λ n. places_from start (take i bitmaps) ++ n ∷ []) (next ∙ ap (λ bs. start + length (flat_map spelling bs)) added)
+          ∙ sym (places_from-append start (take i bitmaps) bits) ∙ ap (places_from start) (sym added),
+    )
 
 -- a vector's bytes are few
 pub few_words : (bits : List Bool) → length bits ≤ most_bits → 8 + 4 * words_of bits < 1048576
@@ -75,7 +76,7 @@ last_is first (p ∷ q ∷ ps) h =
 
 -- ---- places that were tested
 
-none_of : (b : Bool) (o : Option ℕ) → cond b (Some 0) (option_map suc o) ≡ None → (b ≡ false) × (o ≡ None)
+pub none_of : (b : Bool) (o : Option ℕ) → cond b (Some 0) (option_map suc o) ≡ None → (b ≡ false) × (o ≡ None)
 none_of true o h = absurd (cc)
 none_of false None h = (refl, refl)
 none_of false (Some k) h = absurd (cc)
@@ -90,13 +91,6 @@ map_none : (o other : Option ℕ) → or_else (option_map suc o) other ≡ None 
 map_none None other h = (refl, h)
 map_none (Some k) other h = absurd (let e : Some (suc k) ≡ None = h in cc)
 
--- what places say in which none is wrong
-pub record ArePlaced (head size : ℕ) (places : List ℕ) : Type 0 where
-  pub some : 0 < length places
-  pub first : get_or places 0 0 ≡ head
-  pub last : last_place places ≡ size
-  pub apart : (k : ℕ) → k + 1 < length places → get_or places k 0 + 8 ≤ get_or places (k + 1) 0
-
 end_is : (last size count : ℕ) → cond (last == size) None (Some count) ≡ None → last ≡ size
 end_is last size count h = by (last == size) refl h
   where
@@ -110,6 +104,7 @@ places_right head size (p ∷ ps) h = by (p == head) refl h
   where
     rest : Option ℕ
     rest = cond (last_from p ps == size) None (Some (length ps))
+
     by : (b : Bool) → (p == head) ≡ b → cond b (or_else (option_map suc (first_close p ps)) rest) (Some 0) ≡ None → ArePlaced head size (p ∷ ps)
     by false e g = absurd (cc)
     by true e g =

@@ -73,7 +73,7 @@ binning_text (binning.Bounds bounds) h =
 binning_text (binning.Width start end count) h =
     let nbins = both (codes " nbins=") (decimal count) (low_text (codes " nbins=") refl) (decimal_text count (omega (arith, h.4))) in
     let ends = both (codes " end=") (signed_decimal end ++ (codes " nbins=" ++ decimal count)) (low_text (codes " end=") refl)
-        (both (signed_decimal end) (codes " nbins=" ++ decimal count) (signed_text end h.1) nbins) in
+    (both (signed_decimal end) (codes " nbins=" ++ decimal count) (signed_text end h.1) nbins) in
     both (codes "start=") (signed_decimal start ++ (codes " end=" ++ (signed_decimal end ++ (codes " nbins=" ++ decimal count)))) (low_text (codes "start=") refl)
     (both (signed_decimal start) (codes " end=" ++ (signed_decimal end ++ (codes " nbins=" ++ decimal count))) (signed_text start h.0) ends)
 binning_text (binning.Weight count) h = both (codes "nbins=") (decimal count) (low_text (codes "nbins=") refl) (decimal_text count (omega (arith, h.1)))

@@ -128,11 +128,11 @@ front_again rows bins bitmaps text small_rows small_bins small_bitmaps small_tex
     let version : (from_le_bytes w32 (take 4 (drop 4 bytes)) == 1) ≡ true = refl in
     let have = eq-eqb (from_le_bytes w32 (take 4 (drop 8 bytes))) rows (number rows n small_rows) in
     let sizes : sizes_at bytes ≡ record { bins = bins; bitmaps = bitmaps; text = text } =
-        λ i. record {
-            bins = number bins m small_bins i;
-            bitmaps = number bitmaps t small_bitmaps i;
-            text = (ap (λ l. from_le_bytes w32 (take 4 l)) (sym (append-nil t)) ∙ number text [] small_text) i;
-        } in
+    λ i. record {
+      bins = number bins m small_bins i;
+      bitmaps = number bitmaps t small_bitmaps i;
+      text = (ap (λ l. from_le_bytes w32 (take 4 l)) (sym (append-nil t)) ∙ number text [] small_text) i;
+    } in
     ap (λ b. cond b (of_rows rows (number_at 8 bytes) bytes) (Err (fault.Version (number_at 4 bytes)))) version
     ∙ ap (λ b. cond b (Ok (sizes_at bytes)) (Err (fault.Rows rows (number_at 8 bytes)))) have
     ∙ ap (λ f. Ok f) sizes
@@ -206,9 +206,9 @@ parts_again size m spec edges places given order fit count len small right =
     let bins : bins_in n e ≡ Ok edges = ap (λ es. ordered (first_out_of_order es) es) (edges_again edges fit) ∙ ap (λ o. ordered o edges) order in
     let read : places_at (m + 1) p ≡ places = ap (λ k. places_at k p) (sym len) ∙ places_again places small in
     let found : places_in (size_of front) size m p ≡ Ok places =
-        ap (λ ps. placed (first_wrong_place (size_of front) size ps) ps) read ∙ ap (λ o. placed o places) right in
+    ap (λ ps. placed (first_wrong_place (size_of front) size ps) ps) read ∙ ap (λ o. placed o places) right in
     let known : tested (bitmap_count spec.encoding n) m ≡ Ok tt =
-        ap (λ o. tested o m) count ∙ ap (λ b. cond b (Ok tt) (Err (fault.Count m m))) (eq-eqb m m refl) in
+    ap (λ o. tested o m) count ∙ ap (λ b. cond b (Ok tt) (Err (fault.Count m m))) (eq-eqb m m refl) in
     ap (λ b. with_spec size front (drop (length text) (text ++ (e ++ p))) (spec_in b)) (take-append_seam text (e ++ p))
     ∙ ap (λ r. with_spec size front (drop (length text) (text ++ (e ++ p))) r) (spec_in-printed spec given)
     ∙ ap (λ b. with_bins size front spec (drop (32 * n) b) (bins_in n (take (32 * n) b))) (drop-append_seam text (e ++ p))
@@ -225,7 +225,7 @@ whole_again rows front first parts body head l says size is =
     let all : length file ≡ size_of front + length body = omega (arith, length-append first (parts ++ body), length-append parts body) in
     let rest : length parts ≡ rest_size front = omega arith in
     let behind : take (rest_size front) (drop 24 file) ≡ parts =
-        ap (take (rest_size front)) (drop-front 24 first (parts ++ body) l) ∙ take-front (rest_size front) parts body rest in
+    ap (take (rest_size front)) (drop-front 24 first (parts ++ body) l) ∙ take-front (rest_size front) parts body rest in
     let long : nat_lt (length file) (size_of front) ≡ false = le-ltb (length file) (size_of front) (omega arith) in
     ap (λ b. with_front (length file) (λ f. take (rest_size f) (drop 24 file)) (front_in rows b)) (take-front 24 first (parts ++ body) l)
     ∙ ap (λ r. with_front (length file) (λ f. take (rest_size f) (drop 24 file)) r) says

@@ -198,4 +198,9 @@ rest_look name front = record { name = name; offset = 24; room = rest_size front
 pub record IsHeadLook (files : Option Files) (name : List ℕ) (look : Look) : Type 0 where
   pub of_it : look.name ≡ name
   pub within : (bytes : List ℕ) → told_at files name ≡ Some bytes
-    → (look.offset + look.room ≤ 24) ⊎ (look.offset + look.room ≤ size_of (sizes_at (take 24 bytes)))
+      → (look.offset + look.room ≤ 24) ⊎ (look.offset + look.room ≤ size_of (sizes_at (take 24 bytes)))
+
+-- a read of this file that ends at a place or before it
+pub record EndsBy (name : List ℕ) (place : ℕ) (look : Look) : Type 0 where
+  pub of_it : look.name ≡ name
+  pub within : look.offset + look.room ≤ place

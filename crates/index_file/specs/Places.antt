@@ -1,5 +1,5 @@
 -- Where the bitmaps of an index file stand.
-use Rattle.std.specs.Prelude.{suc, ◌+◌, ◌-◌, ◌*◌, ◌==◌, ℕ, Bool, List, [], ◌∷◌, length, Option, None, Some, option_map, nat_lt, slice_index, if◌then◌else◌}
+use Rattle.std.specs.Prelude.{◌≡◌, ◌<◌, ◌≤◌, suc, ◌+◌, ◌-◌, ◌*◌, ◌==◌, ℕ, Bool, List, [], ◌∷◌, length, Option, None, Some, option_map, nat_lt, slice_index, if◌then◌else◌}
 use Rattle.wah_words.specs.Bytes.{spelling}
 use Rattle.fb_outside.specs.Reads.{Look}
 
@@ -37,6 +37,13 @@ abbrev pub first_wrong_place : ℕ → ℕ → List ℕ → Option ℕ
 first_wrong_place head size [] = Some 0
 first_wrong_place head size (place ∷ places) =
     if place == head then or_else (option_map suc (first_close place places)) (if last_from place places == size then None else Some (length places)) else Some 0
+
+-- In the bitmaps' own words: the first begins where the head ends, each has 8 bytes or more, and the last ends the file.
+pub record ArePlaced (head size : ℕ) (places : List ℕ) : Type 0 where
+  pub some : 0 < length places
+  pub first : slice_index places 0 ≡ head
+  pub last : last_place places ≡ size
+  pub apart : (k : ℕ) → k + 1 < length places → slice_index places k + 8 ≤ slice_index places (k + 1)
 
 -- how many bytes the bitmap of a number has
 abbrev pub room_at : List ℕ → ℕ → ℕ

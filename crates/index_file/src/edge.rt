@@ -17,11 +17,7 @@ pub struct Edge {
 }
 
 /// So many bins that the bytes spell, which have to be in order.
-pub(crate) fn bins_of(
-    alloc: Global,
-    bytes: &[u8],
-    count: u32,
-) -> Result<Items<Edge>, IndexFault>
+pub(crate) fn bins_of(alloc: Global, bytes: &[u8], count: u32) -> Result<Items<Edge>, IndexFault>
     requires { length bytes.now ≡ 32 * count }
     ensures exact { IsAnswer result (bins_in count bytes.now) }
     ensures ordered { IfOk result (λ bins. first_out_of_order bins ≡ None) }

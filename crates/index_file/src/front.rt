@@ -25,7 +25,8 @@ impl Front {
     pub(crate) fn size(self) -> u64
         ensures { result ≡ size_of self }
     {
-        24 + (u64::from(self.text) + (32 * u64::from(self.bins) + 8 * (u64::from(self.bitmaps) + 1)))
+        24 + (u64::from(self.text)
+            + (32 * u64::from(self.bins) + 8 * (u64::from(self.bitmaps) + 1)))
     }
 }
 

@@ -19,6 +19,6 @@ pub use bitmaps::fetch;
 pub use edge::Edge;
 pub use fault::IndexFault;
 pub use head::IndexHead;
-pub use laws::written_indexes_open;
+pub use laws::{bins_in_order, places_in_order, written_indexes_open};
 pub use opening::open_index;
 pub use writing::write_index;

@@ -7,7 +7,7 @@ ghost use Rattle.fb_outside.specs.Reads.{AddsOnly, AddsRead};
 ghost use Rattle.index_spec.specs.Printed.{printed};
 ghost use Rattle.index_file.specs.Front.{front_in, rest_size, size_of};
 ghost use Rattle.index_file.specs.IndexFile.{front_bytes, head_bytes};
-ghost use Rattle.index_file.specs.Opening.{IsAnswer, IsHeadLook, StopsFront, StopsOpening, StopsRest, front_look, index_in, listed, opened_index, rest_in, rest_look, some_head, with_front};
+ghost use Rattle.index_file.specs.Opening.{EndsBy, IsAnswer, IsHeadLook, StopsFront, StopsOpening, StopsRest, front_look, index_in, listed, opened_index, rest_in, rest_look, some_head, with_front};
 
 use crate::fault::IndexFault;
 use crate::front::{FRONT_BYTES, Front, front_of};
@@ -35,7 +35,10 @@ pub fn open_index<S: Store>(
     ensures found { IfOk result (λ index. IfSome index (λ head. IfSome (S.files store.old) (λ m.
         bytes_at m name.now 0 (slice_index head.offsets 0) ≡ head_bytes rows (printed head.spec) head.bins head.offsets))) }
     ensures files { SameFiles (S.files store.old) (S.files store.new) }
+
+    // Each read ends within the first 24 bytes or the head whose length these give; where it opens, before the bitmaps.
     ensures reads { AddsOnly (IsHeadLook (S.files store.old) name.now) (S.reads store.old) (S.reads store.new) }
+    ensures before { IfOk result (λ index. IfSome index (λ head. AddsOnly (EndsBy name.now (slice_index head.offsets 0)) (S.reads store.old) (S.reads store.new))) }
 {
     match file_size(store, name)? {
         Some(size) => open_sized(alloc, store, name, rows, size),
@@ -74,6 +77,7 @@ fn open_sized<S: Store>(
         bytes_at m name.now 0 (slice_index head.offsets 0) ≡ head_bytes rows (printed head.spec) head.bins head.offsets))) }
     ensures files { SameFiles (S.files store.old) (S.files store.new) }
     ensures reads { AddsOnly (IsHeadLook (S.files store.old) name.now) (S.reads store.old) (S.reads store.new) }
+    ensures before { IfOk result (λ index. IfSome index (λ head. AddsOnly (EndsBy name.now (slice_index head.offsets 0)) (S.reads store.old) (S.reads store.new))) }
 {
     let front = read_front(store, name, rows)?;
     let rest = read_rest(alloc, store, name, front, size)?;
@@ -82,11 +86,7 @@ fn open_sized<S: Store>(
 }
 
 /// What the first 24 bytes say of an index of so many rows.
-fn read_front<S: Store>(
-    store: &mut S,
-    name: &FileName,
-    rows: u32,
-) -> Result<Front, IndexFault>
+fn read_front<S: Store>(store: &mut S, name: &FileName, rows: u32) -> Result<Front, IndexFault>
     ensures cause { HasCause (S.faults store.old) (S.faults store.new) (IsErrOf result IndexFault.Store) }
     ensures stop { IfErr result (StopsFront rows) }
     ensures exact { IfSome (S.files store.old) (λ m. IsAnswer result (front_in rows (bytes_at m name.now 0 24))) }

@@ -112,7 +112,12 @@ fn check_fault<R: Abort + AllocGlobal>(rt: &R, bytes: &[u8], want: &IndexFault) 
 }
 
 /// The file, cut after so many bytes and damaged so, has this fault.
-fn check_cut<R: Abort + AllocGlobal>(rt: &R, patches: &[(usize, u8)], size: usize, want: &IndexFault) {
+fn check_cut<R: Abort + AllocGlobal>(
+    rt: &R,
+    patches: &[(usize, u8)],
+    size: usize,
+    want: &IndexFault,
+) {
     match damaged(rt, patches).get(..size) {
         Some(bytes) => check_fault(rt, bytes, want),
         None => rt.panic("no such size"),
@@ -130,7 +135,12 @@ fn fetched<R: Abort + AllocGlobal>(
     fetch(rt.alloc(), store, head, k)
 }
 
-fn check_fetch_fault<R: Abort + AllocGlobal>(rt: &R, store: &mut MemStore, head: &IndexHead, want: &IndexFault) {
+fn check_fetch_fault<R: Abort + AllocGlobal>(
+    rt: &R,
+    store: &mut MemStore,
+    head: &IndexHead,
+    want: &IndexFault,
+) {
     match fetched(rt, store, head, 1) {
         Err(fault) => assert!(rt; fault == *want),
         Ok(_) => rt.panic("no fault"),
@@ -238,7 +248,15 @@ fn opens_the_head_and_fetches_one_bitmap(rt: HostRuntime) -> Result<(), Fail> {
 }
 
 /// What is wrong at each stage, the first one first.
-const PATCHES: &[(usize, u8)] = &[(0, 0), (4, 2), (8, 4), (33, b'N'), (59, 2), (16, 1), (123, 148)];
+const PATCHES: &[(usize, u8)] = &[
+    (0, 0),
+    (4, 2),
+    (8, 4),
+    (33, b'N'),
+    (59, 2),
+    (16, 1),
+    (123, 148),
+];
 
 #[test]
 fn the_first_fault_is_told(rt: HostRuntime) {
@@ -262,7 +280,12 @@ fn the_first_fault_is_told(rt: HostRuntime) {
 fn a_short_file_is_refused(rt: HostRuntime) {
     check_cut(&rt, &PATCHES[0..1], 23, &IndexFault::Short);
     check_cut(&rt, &[], 0, &IndexFault::Short);
-    check_cut(&rt, &PATCHES[2..3], 24, &IndexFault::Rows { want: 3, have: 4 });
+    check_cut(
+        &rt,
+        &PATCHES[2..3],
+        24,
+        &IndexFault::Rows { want: 3, have: 4 },
+    );
     check_cut(&rt, &PATCHES[3..4], 146, &IndexFault::Short);
     // 2^31 bins in 40 bytes
     check_cut(&rt, &[(12, 0), (15, 128)], 40, &IndexFault::Short);
@@ -273,7 +296,11 @@ fn bins_and_places_are_in_order(rt: HostRuntime) {
     // bin 1 is from 1 on
     check_fault(&rt, &damaged(&rt, &[(91, 1)]), &IndexFault::Order(1));
     check_fault(&rt, &damaged(&rt, &[(123, 148)]), &IndexFault::Offsets(0));
-    check_fault(&rt, &damaged(&rt, &[(131, 154), (139, 0)]), &IndexFault::Offsets(1));
+    check_fault(
+        &rt,
+        &damaged(&rt, &[(131, 154), (139, 0)]),
+        &IndexFault::Offsets(1),
+    );
     check_fault(&rt, &damaged(&rt, &[(139, 166)]), &IndexFault::Offsets(2));
     check_cut(&rt, &[], 170, &IndexFault::Offsets(2));
 }
@@ -288,7 +315,12 @@ fn damaged_bitmaps_are_refused(rt: HostRuntime) {
     check_fetch_fault(&rt, &mut store, &head, &short);
     // 5 groups in a vector of 3 bits
     put(&rt, &mut store, &damaged(&rt, &[(163, 5)]));
-    check_fetch_fault(&rt, &mut store, &head, &IndexFault::Bitmap(1, WordsFault::Groups));
+    check_fetch_fault(
+        &rt,
+        &mut store,
+        &head,
+        &IndexFault::Bitmap(1, WordsFault::Groups),
+    );
     // no bits, and four bytes
     put(&rt, &mut store, &damaged(&rt, &[(159, 0)]));
     check_fetch_fault(&rt, &mut store, &head, &IndexFault::BitmapTrailing(1));

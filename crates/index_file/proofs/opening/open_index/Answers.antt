@@ -10,8 +10,8 @@ returns-in-Some-clause-exact g c =
     let files = g.S.Store.files c.args.store.now in
     let name = c.args.name.now in
     let size : IfSome files (λ m. Some c.in-Some.size ≡ option_map length (file_at m name)) =
-        subst (λ o. IfSome files (λ m. o ≡ option_map length (file_at m name))) c.in-Some.is c.in_ok-size.ensures.size in
+    subst (λ o. IfSome files (λ m. o ≡ option_map length (file_at m name))) c.in-Some.is c.in_ok-size.ensures.size in
     opened_by files name c.args.rows c.in-Some.size (opened_index c.open_sized.result) size
     (subst (λ f. IfSome f (λ m. IsAnswer (opened_index c.open_sized.result)
-        (some_head (with_front c.in-Some.size (λ front. bytes_at m name 24 (rest_size front)) (front_in c.args.rows (bytes_at m name 0 24))))))
+    (some_head (with_front c.in-Some.size (λ front. bytes_at m name 24 (rest_size front)) (front_in c.args.rows (bytes_at m name 0 24))))))
     c.file_size.ensures.files c.open_sized.ensures.exact)

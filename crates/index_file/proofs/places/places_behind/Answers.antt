@@ -7,7 +7,7 @@ use Rattle.index_file.proofs.places.places_behind.Goals as goal
 pub loop-bitmap-preserved : goal.loop-bitmap-preserved
 loop-bitmap-preserved c =
     let pushed = places_pushed c.args.start c.args.bitmaps.now c.loop-bitmap.bitmap-index c.bitmap-item.result c.loop-bitmap.at c.loop-bitmap-test.true c.bitmap-item.is
-        c.loop-bitmap.invariant.ends in
+    c.loop-bitmap.invariant.ends in
     let few = few_words c.bitmap-item.result c.words.ensures.limit in
     let words : c.from.result ≡ words_of c.bitmap-item.result = cc in
     let next : c.loop-bitmap.at + (8 + 4 * c.from.result) ≡ c.loop-bitmap.at + (8 + 4 * words_of c.bitmap-item.result) = ap (λ n. c.loop-bitmap.at + (8 + 4 * n)) words in

@@ -2,9 +2,15 @@
 #![tactic(auto)]
 
 mod appending;
+mod column_writing;
 mod content;
 mod fault;
+mod gathering;
+mod growing;
 mod opening;
+mod part_column;
+mod part_writing;
+mod refusing;
 
 pub use appending::append;
 pub use content::{Dataset, create};

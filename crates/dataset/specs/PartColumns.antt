@@ -1,5 +1,5 @@
 -- One column of a part that is written: where its files go, and its cells.
-use Rattle.std.specs.Prelude.{◌≡◌, ◌+◌, ◌≤◌, ◌<◌, ℕ, List, length, map, take, drop, Some, slice_get, slice_index_or}
+use Rattle.std.specs.Prelude.{◌≡◌, ◌+◌, ◌≤◌, ◌<◌, ◌^◌, ℕ, List, length, map, take, drop, Some, slice_get, slice_index_or}
 use Rattle.std.specs.List.{All}
 use Rattle.fb_outside.specs.Names.{IsPath}
 use Rattle.fb_outside.specs.Puts.{File}
@@ -10,7 +10,7 @@ use Rattle.fb_types.specs.Cells.{CellFits}
 use Rattle.fb_types.specs.Table.{Table}
 use Rattle.part_meta.specs.declared.names.FileKind.{FileKind}
 use Rattle.part_meta.specs.FileNames.{file_name}
-use Rattle.text_column.specs.Words.{with_word}
+use Rattle.text_column.specs.Words.{code_in, with_word}
 use Rattle.world.specs.World.{Partition}
 use Rattle.world.specs.PartFiles.{column_cells}
 
@@ -48,6 +48,7 @@ records_from table first rows = take rows (drop first table.records)
 pub record IsCutFrom (table : Table) (column : Column) (col first rows : ℕ) : Type 0 where
   pub there : slice_get table.schema col ≡ Some column
   pub within : first + rows ≤ length table.records
+  pub few : first + rows < 2 ^ 64
 
 -- the words of a dictionary once this cell has been seen, too
 abbrev pub with_cell : List (List ℕ) → Cell → List (List ℕ)
@@ -58,3 +59,9 @@ with_cell words (Word word) = with_word words word
 -- the part of this number that has them
 abbrev pub part_from : Table → (number first rows : ℕ) → Partition
 part_from table number first rows = record { number = number; records = records_from table first rows }
+
+-- the cell's number under these words: its word's code, or 0
+abbrev pub IsCodeOf : List (List ℕ) → Cell → ℕ → Type 0
+IsCodeOf words Null code = code ≡ 0
+IsCodeOf words (Whole number) code = code ≡ 0
+IsCodeOf words (Word word) code = code_in words word ≡ Some code

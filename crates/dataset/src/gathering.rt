@@ -1,14 +1,15 @@
 //! What the cells of a column leave in its files, gathered row by row.
 
-ghost use Rattle.std.specs.Prelude.{◌≡◌, pos, ◌+◌, ◌*◌, ◌^◌, ◌<◌, ◌≤◌, ℕ, List, [], ◌∷◌, ◌++◌, Some, IfOk, IsNone, IsSome, OnOk, length, map, take, drop, unwrap_or};
+ghost use Rattle.std.specs.Prelude.{◌≡◌, ◌+◌, ◌*◌, ◌^◌, ◌<◌, ◌≤◌, ℕ, List, [], ◌∷◌, ◌++◌, Some, IfOk, IsNone, IsSome, OnOk, length, map, take, drop, unwrap_or};
 ghost use Rattle.std.specs.List.{All};
+ghost use Rattle.fb_types.specs.Cells.{CellFits};
 ghost use Rattle.fb_types.specs.Types.{ends_of};
 ghost use Rattle.column_file.specs.Values.{ValueFits};
 ghost use Rattle.text_column.specs.TextFiles.{AreFilesOf};
 ghost use Rattle.text_column.specs.Words.{IsWord, code_in, with_word};
 ghost use Rattle.wah_words.specs.Places.{places};
 ghost use Rattle.world.specs.PartFiles.{code_of, dictionary_of, is_present, number_of, texts_of, word_of};
-ghost use Rattle.dataset.specs.PartColumns.{cell_of, with_cell};
+ghost use Rattle.dataset.specs.PartColumns.{IsCodeOf, cell_of, with_cell};
 ghost use Rattle.fb_types.specs.declared.types.ColType.TheVariants.{Category};
 
 use crate::part_column::PartColumn;
@@ -36,8 +37,7 @@ pub(crate) fn numbers_of(alloc: Global, part: &PartColumn<'_>) -> Result<Vec<i12
 fn number_at(part: &PartColumn<'_>, row: u32) -> i128
     requires row { row < length part.now.cells }
     requires column { IsSome (ends_of part.now.column.ty) }
-    ensures number { result ≡ number_of (cell_of part.now row) }
-    ensures fit { ValueFits result part.now.column.ty }
+    ensures { result ≡ number_of (cell_of part.now row) }
 {
     part.whole(row).unwrap_or(0)
 }
@@ -60,7 +60,8 @@ pub(crate) fn mask_of(alloc: Global, part: &PartColumn<'_>) -> Result<Wah, Alloc
 
 /// The mask of so many groups of 31 rows, from the top.
 fn whole_groups(alloc: Global, part: &PartColumn<'_>, groups: u32) -> Result<Builder, AllocError>
-    requires { 31 * groups ≤ length part.now.cells }
+    requires there { 31 * groups ≤ length part.now.cells }
+    requires few { length part.now.cells ≤ 4194304 }
     ensures values { IfOk result (λ mask. mask.values ≡ map is_present (take (31 * groups) part.now.cells)) }
 {
     let mut mask = Builder::with_room(alloc, groups)?;
@@ -74,6 +75,7 @@ fn whole_groups(alloc: Global, part: &PartColumn<'_>, groups: u32) -> Result<Bui
 fn group_of(part: &PartColumn<'_>, first: u32, count: u32) -> u32
     requires rows { first + count ≤ length part.now.cells }
     requires few { count ≤ 31 }
+    requires small { length part.now.cells ≤ 4194304 }
     ensures places { places count result ≡ map is_present (take count (drop first part.now.cells)) }
     ensures fits { result < 2 ^ count }
 {
@@ -114,10 +116,11 @@ fn code_at(
     words: &mut Dictionary,
 ) -> Result<u32, AllocError>
     requires row { row < length part.now.cells }
+    requires fit { All (λ cell. CellFits cell part.now.column.ty) part.now.cells }
     requires column { IsNone (ends_of part.now.column.ty) }
     requires few { length words.old < 4194304 }
     ensures words { OnOk result (words.new ≡ with_cell words.old (cell_of part.now row)) }
-    ensures code { IfOk result (λ code. pos code ≡ code_of words.new (cell_of part.now row)) }
+    ensures code { IfOk result (IsCodeOf words.new (cell_of part.now row)) }
 {
     match part.word(row) {
         Some(word) => code_for(alloc, words, word),

@@ -1,6 +1,6 @@
 //! The files of parts, and the catalog behind them.
 
-ghost use Rattle.std.specs.Prelude.{◌≡◌, ◌+◌, ◌*◌, ◌<◌, ◌≤◌, [], ◌∷◌, ◌++◌, IfOk, IsErrOf, length, map};
+ghost use Rattle.std.specs.Prelude.{◌≡◌, ◌+◌, ◌*◌, ◌^◌, ◌<◌, ◌≤◌, [], ◌∷◌, ◌++◌, IfOk, IsErrOf, length, map};
 ghost use Rattle.std.specs.List.{flat_map};
 ghost use Rattle.fb_outside.specs.Causes.{HasCause};
 ghost use Rattle.fb_outside.specs.Names.{IsPath};
@@ -67,6 +67,7 @@ fn write_part<S: Store, L: Ledger>(
     requires number { meta.now.number < 4096 }
     requires few { meta.now.rows ≤ 4194304 }
     requires within { first + meta.now.rows ≤ length columns.now.records }
+    requires small { first + meta.now.rows < 2 ^ 64 }
     requires schema { meta.now.schema ≡ columns.now.schema }
     ensures cause { HasCause (S.faults store.old) (S.faults store.new) (IsErrOf result Trouble.Failed) }
     ensures files { PutsInOrder (part_files dir.now columns.now.schema (part_from columns.now meta.now.number first meta.now.rows)) result
@@ -90,6 +91,7 @@ fn write_columns<S: Store, L: Ledger>(
     requires number { meta.now.number < 4096 }
     requires few { meta.now.rows ≤ 4194304 }
     requires within { first + meta.now.rows ≤ length columns.now.records }
+    requires small { first + meta.now.rows < 2 ^ 64 }
     ensures cause { HasCause (S.faults store.old) (S.faults store.new) (IsErrOf result Trouble.Failed) }
     ensures files { PutsInOrder (columns_files dir.now (part_from columns.now meta.now.number first meta.now.rows) 0 columns.now.schema) result
         (S.files store.old) (S.files store.new) }

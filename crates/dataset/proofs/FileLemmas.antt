@@ -1,0 +1,95 @@
+-- Files that are put one after another: those of the columns, and of the parts.
+use Rattle.std.proofs.Common.{◌≡◌, ◌<◌, ◌≤◌, ◌+◌, ◌*◌, ◌-◌, zero, suc, ℕ, List, [], ◌∷◌, ◌++◌, Option, Some, None, Result, Ok, Err, IsErrOf, OnOk, length, map, take, drop, get_or, refl, sym, ap, subst, ◌∙◌, arith, append_assoc, append-nil, length-take}
+use Rattle.std.specs.List.{flat_map}
+use Rattle.std.proofs.lemmas.List.{take-append-drop, take_more, drop_more}
+use Rattle.std.proofs.lemmas.List.Concat.{flat_map-append}
+use Rattle.fb_outside.specs.Files.{Files, SameFiles, Puts, PutLeaves}
+use Rattle.fb_outside.specs.Puts.{File, PutsAll, PutsFront, PutsInOrder}
+use Rattle.fb_outside.specs.declared.outside.Trouble.{Trouble}
+use Rattle.fb_outside.specs.declared.outside.Trouble.TheVariants as trouble
+use Rattle.fb_outside.proofs.PutLemmas.{PutsAll-one, PutsFront-one, PutsFront-none, PutsFront-more, PutsFront-append, PutsInOrder-then}
+use Rattle.fb_types.specs.declared.schemas.Column.{Column}
+use Rattle.column_file.specs.declared.fault.ColFault.{ColFault}
+use Rattle.column_file.specs.declared.fault.ColFault.TheVariants as col
+use Rattle.column_file.specs.Opening.{StopsWriting}
+use Rattle.world.specs.World.{Partition}
+use Rattle.world.specs.PartFiles.{column_cells, column_files, columns_files}
+
+-- ---- one file
+
+pub put_one : (x : File) (r : Result (Unit {0}) Trouble) (old new : Option Files) → OnOk r (Puts old new x.name x.bytes)
+    → (IsErrOf r trouble.Failed → PutLeaves x.name x.bytes old new) → (IsErrOf r trouble.OutOfMemory → SameFiles old new)
+    → PutsInOrder (x ∷ []) r old new
+put_one x (Ok done) old new ok failed memory = PutsAll-one x old new ok
+put_one x (Err trouble.Failed) old new ok failed memory = PutsFront-one x old new (failed refl)
+put_one x (Err trouble.OutOfMemory) old new ok failed memory = PutsFront-none (x ∷ []) old new (memory refl)
+
+-- a writer of a column's file that stopped
+pub column_stopped : (x : File) (fault : ColFault) (old new : Option Files) → StopsWriting fault
+    → (IsErrOf {A = Unit {0}} (Err fault) col.Store → PutLeaves x.name x.bytes old new)
+    → (IsErrOf {A = Unit {0}} (Err fault) col.OutOfMemory → SameFiles old new) → PutsFront (x ∷ []) old new
+column_stopped x col.Store old new stops failed memory = PutsFront-one x old new (failed refl)
+column_stopped x col.OutOfMemory old new stops failed memory = PutsFront-none (x ∷ []) old new (memory refl)
+column_stopped x col.Missing old new stops failed memory = absurd stops
+column_stopped x (col.WrongLength want have) old new stops failed memory = absurd stops
+column_stopped x col.MaskMissing old new stops failed memory = absurd stops
+column_stopped x (col.Mask fault) old new stops failed memory = absurd stops
+column_stopped x col.MaskTrailing old new stops failed memory = absurd stops
+column_stopped x (col.MaskLength want have) old new stops failed memory = absurd stops
+
+-- ---- the files of columns
+
+columns_files-cut : (dir : List ℕ) (part : Partition) (col n : ℕ) (columns : List Column)
+    → columns_files dir part col columns ≡ columns_files dir part col (take n columns) ++ columns_files dir part (col + n) (drop n columns)
+columns_files-cut dir part col zero columns = ap (λ k. columns_files dir part k columns) (omega arith)
+columns_files-cut dir part col (suc n) [] = refl
+columns_files-cut dir part col (suc n) (column ∷ columns) =
+    let e : col + 1 + n ≡ col + suc n = omega arith in
+    let files = column_files dir part.number column (column_cells col part.records) in
+    ap (λ rest. files ++ rest) (columns_files-cut dir part (col + 1) n columns
+        ∙ ap (λ k. columns_files dir part (col + 1) (take n columns) ++ columns_files dir part k (drop n columns)) e)
+    ∙ sym (append_assoc files (columns_files dir part (col + 1) (take n columns)) (columns_files dir part (col + suc n) (drop n columns)))
+
+columns_files-one : (dir : List ℕ) (part : Partition) (col n : ℕ) (columns : List Column) (column : Column) → length columns ≡ n
+    → columns_files dir part col (columns ++ column ∷ []) ≡ columns_files dir part col columns ++ column_files dir part.number column (column_cells (col + n) part.records)
+columns_files-one dir part col n [] column len =
+    let e : col ≡ col + n = omega arith in
+    append-nil (column_files dir part.number column (column_cells col part.records))
+    ∙ ap (λ k. column_files dir part.number column (column_cells k part.records)) e
+columns_files-one dir part col zero (x ∷ columns) column len = absurd (omega arith)
+columns_files-one dir part col (suc n) (x ∷ columns) column len =
+    let e : col + 1 + n ≡ col + suc n = omega arith in
+    let files = column_files dir part.number x (column_cells col part.records) in
+    ap (λ rest. files ++ rest) (columns_files-one dir part (col + 1) n columns column (omega arith)
+        ∙ ap (λ k. columns_files dir part (col + 1) columns ++ column_files dir part.number column (column_cells k part.records)) e)
+    ∙ sym (append_assoc files (columns_files dir part (col + 1) columns) (column_files dir part.number column (column_cells (col + suc n) part.records)))
+
+pub columns_files-more : (dir : List ℕ) (part : Partition) (n : ℕ) (columns : List Column) (column : Column) → n < length columns → get_or columns n column ≡ column
+    → columns_files dir part 0 (take (n + 1) columns)
+        ≡ columns_files dir part 0 (take n columns) ++ column_files dir part.number column (column_cells n part.records)
+columns_files-more dir part n columns column h is =
+    let len : length (take n columns) ≡ n = length-take n columns ∙ omega arith in
+    ap (columns_files dir part 0) (take_more columns n column h ∙ ap (λ c. take n columns ++ c ∷ []) is)
+    ∙ columns_files-one dir part 0 n (take n columns) column len
+
+-- ---- a call that goes on, and stops, behind files that were put
+
+-- the files of the first `n` items and of the next are a front of all
+pub front_of_columns : (dir : List ℕ) (part : Partition) (n : ℕ) (columns : List Column) (old new : Option Files) → n ≤ length columns
+    → PutsFront (columns_files dir part 0 (take n columns)) old new → PutsFront (columns_files dir part 0 columns) old new
+front_of_columns dir part n columns old new h front =
+    subst (λ (files : List File). PutsFront files old new) (sym (columns_files-cut dir part 0 n columns))
+        (PutsFront-more (columns_files dir part 0 (take n columns)) (columns_files dir part (0 + n) (drop n columns)) old new front)
+
+pub front_of_all : {X : Type 0} (f : X → List File) (n : ℕ) (xs : List X) (old new : Option Files)
+    → PutsFront (flat_map f (take n xs)) old new → PutsFront (flat_map f xs) old new
+front_of_all f n xs old new front =
+    subst (λ (files : List File). PutsFront files old new)
+        (sym (flat_map-append f (take n xs) (drop n xs)) ∙ ap (flat_map f) (take-append-drop n xs))
+        (PutsFront-more (flat_map f (take n xs)) (flat_map f (drop n xs)) old new front)
+
+pub all_more : {X : Type 0} (f : X → List File) (n : ℕ) (xs : List X) (d : X) → n < length xs
+    → flat_map f (take (n + 1) xs) ≡ flat_map f (take n xs) ++ f (get_or xs n d)
+all_more f n xs d h =
+    ap (flat_map f) (take_more xs n d h) ∙ flat_map-append f (take n xs) (get_or xs n d ∷ [])
+    ∙ ap (λ ys. flat_map f (take n xs) ++ ys) (append-nil (f (get_or xs n d)))

@@ -1,5 +1,5 @@
 -- Files that are put one after another: those of the columns, and of the parts.
-use Rattle.std.proofs.Common.{◌≡◌, ◌<◌, ◌≤◌, ◌+◌, ◌*◌, ◌-◌, zero, suc, ℕ, List, [], ◌∷◌, ◌++◌, Option, Some, None, Result, Ok, Err, IsErrOf, OnOk, length, map, take, drop, get_or, refl, sym, ap, subst, ◌∙◌, arith, append_assoc, append-nil, length-take}
+use Rattle.std.proofs.Common.{◌≡◌, ◌<◌, ◌≤◌, ◌+◌, ◌*◌, ◌-◌, zero, suc, ℕ, List, [], ◌∷◌, ◌++◌, Option, Some, None, Result, Ok, Err, IsErrOf, OnOk, length, map, take, drop, get_or, refl, sym, ap, subst, ◌∙◌, arith, append_assoc, append-nil, length-take, zero-add, IsSome, slice_get}
 use Rattle.std.specs.List.{flat_map}
 use Rattle.std.proofs.lemmas.List.{take-append-drop, take_more, drop_more}
 use Rattle.std.proofs.lemmas.List.Concat.{flat_map-append}
@@ -13,7 +13,19 @@ use Rattle.column_file.specs.declared.fault.ColFault.{ColFault}
 use Rattle.column_file.specs.declared.fault.ColFault.TheVariants as col
 use Rattle.column_file.specs.Opening.{StopsWriting}
 use Rattle.world.specs.World.{Partition}
-use Rattle.world.specs.PartFiles.{column_cells, column_files, columns_files}
+use Rattle.std.proofs.lemmas.Bool.{false≢true}
+use Rattle.fb_types.specs.declared.cells.Cell.{Cell}
+use Rattle.fb_types.specs.declared.types.ColType.{ColType}
+use Rattle.fb_types.specs.declared.types.ColType.TheVariants.{Byte, UByte, Short, UShort, Int, UInt, Long, ULong, Category, Text}
+use Rattle.fb_types.specs.Types.{ends_of}
+use Rattle.world.specs.PartFiles.{category_files, column_cells, column_files, columns_files, files_by_type, text_files, whole_files}
+use Rattle.fb_types.specs.Table.{Table}
+use Rattle.part_meta.specs.declared.part.PartMeta.{PartMeta}
+use Rattle.part_meta.specs.FileNames.{part_name}
+use Rattle.part_meta.specs.PartText.{part_text}
+use Rattle.world.specs.PartFiles.{part_data, part_files}
+use Rattle.dataset.proofs.CellLemmas.{length-records}
+use Rattle.dataset.specs.PartColumns.{ColumnOfPart, files_in, part_from, records_from}
 
 -- ---- one file
 
@@ -26,8 +38,8 @@ put_one x (Err trouble.OutOfMemory) old new ok failed memory = PutsFront-none (x
 
 -- a writer of a column's file that stopped
 pub column_stopped : (x : File) (fault : ColFault) (old new : Option Files) → StopsWriting fault
-    → (IsErrOf {A = Unit {0}} (Err fault) col.Store → PutLeaves x.name x.bytes old new)
-    → (IsErrOf {A = Unit {0}} (Err fault) col.OutOfMemory → SameFiles old new) → PutsFront (x ∷ []) old new
+    → (IsErrOf {T = Unit {0}} (Err fault) col.Store → PutLeaves x.name x.bytes old new)
+    → (IsErrOf {T = Unit {0}} (Err fault) col.OutOfMemory → SameFiles old new) → PutsFront (x ∷ []) old new
 column_stopped x col.Store old new stops failed memory = PutsFront-one x old new (failed refl)
 column_stopped x col.OutOfMemory old new stops failed memory = PutsFront-none (x ∷ []) old new (memory refl)
 column_stopped x col.Missing old new stops failed memory = absurd stops
@@ -71,6 +83,7 @@ columns_files-more dir part n columns column h is =
     let len : length (take n columns) ≡ n = length-take n columns ∙ omega arith in
     ap (columns_files dir part 0) (take_more columns n column h ∙ ap (λ c. take n columns ++ c ∷ []) is)
     ∙ columns_files-one dir part 0 n (take n columns) column len
+    ∙ ap (λ k. columns_files dir part 0 (take n columns) ++ column_files dir part.number column (column_cells k part.records)) (zero-add n)
 
 -- ---- a call that goes on, and stops, behind files that were put
 
@@ -93,3 +106,64 @@ pub all_more : {X : Type 0} (f : X → List File) (n : ℕ) (xs : List X) (d : X
 all_more f n xs d h =
     ap (flat_map f) (take_more xs n d h) ∙ flat_map-append f (take n xs) (get_or xs n d ∷ [])
     ∙ ap (λ ys. flat_map f (take n xs) ++ ys) (append-nil (f (get_or xs n d)))
+
+-- ---- the files by the column's type
+
+pub by_type_category : (part : ColumnOfPart) → part.column.ty ≡ Category → column_files part.dir part.number part.column part.cells ≡ files_in part (category_files part.cells)
+unfolding column_files
+by_type_category part h = ap (λ ty. files_in part (files_by_type ty part.cells)) h
+
+pub by_type_text : (part : ColumnOfPart) → part.column.ty ≡ Text → column_files part.dir part.number part.column part.cells ≡ files_in part (text_files part.cells)
+unfolding column_files
+by_type_text part h = ap (λ ty. files_in part (files_by_type ty part.cells)) h
+
+whole_by_type : (ty : ColType) (cells : List Cell) → IsSome (ends_of ty) → files_by_type ty cells ≡ whole_files ty cells
+whole_by_type Byte cells h = refl
+whole_by_type UByte cells h = refl
+whole_by_type Short cells h = refl
+whole_by_type UShort cells h = refl
+whole_by_type Int cells h = refl
+whole_by_type UInt cells h = refl
+whole_by_type Long cells h = refl
+whole_by_type ULong cells h = refl
+whole_by_type Category cells h = absurd (false≢true h)
+whole_by_type Text cells h = absurd (false≢true h)
+
+pub by_type_whole : (part : ColumnOfPart) → IsSome (ends_of part.column.ty)
+    → column_files part.dir part.number part.column part.cells ≡ files_in part (whole_files part.column.ty part.cells)
+unfolding column_files
+by_type_whole part h = ap (files_in part) (whole_by_type part.column.ty part.cells h)
+
+pub is_whole : (ty : ColType) → (ty ≡ Category → ⊥) → (ty ≡ Text → ⊥) → IsSome (ends_of ty)
+is_whole Byte a b = refl
+is_whole UByte a b = refl
+is_whole Short a b = refl
+is_whole UShort a b = refl
+is_whole Int a b = refl
+is_whole UInt a b = refl
+is_whole Long a b = refl
+is_whole ULong a b = refl
+is_whole Category a b = absurd (a refl)
+is_whole Text a b = absurd (b refl)
+
+-- ---- the files of a part
+
+pub meta_is : (table : Table) (meta : PartMeta) (first : ℕ) → first + meta.rows ≤ length table.records → meta.schema ≡ table.schema
+    → part_data table.schema (part_from table meta.number first meta.rows) ≡ meta
+meta_is table meta first within schema =
+    let rows : length (records_from table first meta.rows) ≡ meta.rows = length-records table first meta.rows within in
+    λ i. record { number = meta.number; rows = rows i; schema = sym schema i }
+
+pub part_files-is : (dir : List ℕ) (table : Table) (meta : PartMeta) (first : ℕ) → first + meta.rows ≤ length table.records → meta.schema ≡ table.schema
+    → part_files dir table.schema (part_from table meta.number first meta.rows)
+        ≡ columns_files dir (part_from table meta.number first meta.rows) 0 table.schema
+            ++ record { name = part_name dir meta.number; bytes = part_text meta } ∷ []
+unfolding part_files
+part_files-is dir table meta first within schema =
+    ap (λ (m : PartMeta). columns_files dir (part_from table meta.number first meta.rows) 0 table.schema
+        ++ record { name = part_name dir meta.number; bytes = part_text m } ∷ []) (meta_is table meta first within schema)
+
+pub there_is : {X : Type 0} (xs : List X) (i : ℕ) (x : X) → i < length xs → x ≡ get_or xs i x → slice_get xs i ≡ Some x
+there_is [] i x h is = absurd (omega arith)
+there_is (y ∷ ys) zero x h is = ap Some (sym is)
+there_is (y ∷ ys) (suc i) x h is = there_is ys i x (omega arith) is

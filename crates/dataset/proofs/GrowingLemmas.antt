@@ -1,5 +1,6 @@
 -- A dataset with new parts, and without them again.
-use Rattle.std.proofs.Common.{◌≡◌, ◌<◌, ◌≤◌, ◌+◌, ◌*◌, ◌-◌, zero, suc, ℕ, List, [], ◌∷◌, ◌++◌, Option, Some, None, MatchOption, min, length, map, take, drop, get_or, refl, sym, ap, subst, ◌∙◌, arith, append_assoc, append-nil, length-append, length-take, length-drop, length-map}
+use Rattle.std.proofs.lemmas.Bool.{ltb-false, ltb-true}
+use Rattle.std.proofs.Common.{◌≡◌, ◌⊎◌, inl, inr, nat_lt, true, false, ◌<◌, ◌≤◌, ◌+◌, ◌*◌, ◌-◌, zero, suc, ℕ, List, [], ◌∷◌, ◌++◌, Option, Some, None, MatchOption, min, length, map, take, drop, get_or, refl, sym, ap, subst, ◌∙◌, arith, append_assoc, append-nil, length-append, length-take, length-drop, length-map}
 use Rattle.std.specs.List.{All, AllPairs, range_with_len}
 use Rattle.std.proofs.Math.Seq.{take-append_seam}
 use Rattle.std.proofs.lemmas.List.{take_all, take-append-le, map-append, get_or_append_left}
@@ -85,10 +86,50 @@ grown dataset per_part records =
 
 -- ---- what every dataset keeps
 
+le_or_lt : (m n : ℕ) → (m ≤ n) ⊎ (n < m)
+le_or_lt m n = elim (nat_lt n m) as (λ b. nat_lt n m ≡ b → (m ≤ n) ⊎ (n < m)) [
+      | true ↦ λ e. inr (ltb-true n m e)
+      | false ↦ λ e. inl (ltb-false n m e)
+    ] refl
+
+get_or_behind : (xs ys : List ℕ) (i : ℕ) (d : ℕ) → length xs ≤ i → get_or (xs ++ ys) i d ≡ get_or ys (i - length xs) d
+get_or_behind [] ys i d h = refl
+get_or_behind (x ∷ xs) ys zero d h = absurd (omega arith)
+get_or_behind (x ∷ xs) ys (suc i) d h = get_or_behind xs ys i d (omega arith)
+
+-- an item of such a list stands in front, or is one of the numbers behind
+record At (xs : List ℕ) (next n i d : ℕ) : Type 0 where
+  pub front : i < length xs → get_or (xs ++ range_with_len next n) i d ≡ get_or xs i d
+  pub back : length xs ≤ i → i < length xs + n → get_or (xs ++ range_with_len next n) i d ≡ next + (i - length xs)
+
+item : (xs : List ℕ) (next n i d : ℕ) → At xs next n i d
+item xs next n i d = record {
+  front = λ h. get_or_append_left xs (range_with_len next n) i d h;
+  back = λ h k. get_or_behind xs (range_with_len next n) i d h ∙ get_or-range_with_len next n (i - length xs) d (omega arith);
+}
+
+size : (xs : List ℕ) (next n : ℕ) → length (xs ++ range_with_len next n) ≡ length xs + n
+size xs next n = length-append xs (range_with_len next n) ∙ ap (λ k. length xs + k) (length-range_with_len next n)
+
 rising_behind : (xs : List ℕ) (next n : ℕ) → AllPairs (λ a b. a < b) xs → All (λ x. x < next) xs → AllPairs (λ a b. a < b) (xs ++ range_with_len next n)
-rising_behind xs next n rising below = λ i j d before within.
-    let len : j < length xs + n = omega (arith, length-append xs (range_with_len next n), length-range_with_len next n) in
-    ?
+rising_behind xs next n rising below i j d before within =
+    let all : j < length xs + n = omega (arith, size xs next n) in
+    let at_i = item xs next n i d in
+    let at_j = item xs next n j d in
+    elim (le_or_lt (length xs) j) [
+      | inr h ↦ rw (at_i.front (omega arith), at_j.front h) (rising i j d before h)
+      | inl h ↦ elim (le_or_lt (length xs) i) [
+          | inr k ↦ let small = below i d k in rw (at_i.front k, at_j.back h all) (omega (arith, small))
+          | inl k ↦ rw (at_i.back k (omega arith), at_j.back h all) (omega arith)
+        ]
+    ]
 
 below_behind : (xs : List ℕ) (next n : ℕ) → All (λ x. x < next) xs → All (λ x. x < next + n) (xs ++ range_with_len next n)
-below_behind xs next n below = λ i d within. ?
+below_behind xs next n below i d within =
+    let all : i < length xs + n = omega (arith, size xs next n) in
+    let at = item xs next n i d in
+    elim (le_or_lt (length xs) i) [
+      | inr h ↦ let small = below i d h in rw (at.front h) (omega (arith, small))
+      | inl h ↦ rw (at.back h all) (omega arith)
+    ]
+

@@ -1,5 +1,5 @@
 -- The first difference of two lists of columns.
-use Rattle.std.proofs.Common.{◌≡◌, ◌<◌, ◌≤◌, ◌+◌, zero, suc, ℕ, Bool, true, false, cond, ◌&&◌, List, [], ◌∷◌, ◌++◌, Option, Some, None, option_map, length, drop, get_or, slice_get, bytes_eq, ◌≢◌, length-drop, refl, sym, ap, subst, ◌∙◌, arith}
+use Rattle.std.proofs.Common.{◌≡◌, ◌<◌, ◌≤◌, ◌+◌, zero, suc, ℕ, Bool, true, false, cond, ◌&&◌, List, [], ◌∷◌, ◌++◌, Option, Some, None, option_map, length, map, drop, get_or, slice_get, bytes_eq, ◌≢◌, length-drop, refl, sym, ap, subst, ◌∙◌, arith}
 use Rattle.std.proofs.lemmas.Slice.Eq.{bytes_eq-Decides}
 use Rattle.std.proofs.lemmas.List.{drop_more, drop_all}
 use Rattle.fb_types.specs.declared.schemas.Column.{Column}
@@ -7,7 +7,12 @@ use Rattle.fb_types.specs.declared.types.ColType.{ColType}
 use Rattle.fb_types.specs.Types.{type_name}
 use Rattle.fb_types.specs.SchemaText.{type_named}
 use Rattle.fb_types.proofs.ItemFacts.{type_named-type_name}
-use Rattle.dataset.specs.Appended.{first_difference, is_same_column}
+use Rattle.std.proofs.lemmas.List.{length-map}
+use Rattle.part_meta.specs.declared.part.PartMeta.{PartMeta}
+use Rattle.world.specs.Effects.{part_count}
+use Rattle.dataset.specs.declared.content.Dataset.{Dataset}
+use Rattle.dataset.specs.Opened.{catalog_in}
+use Rattle.dataset.specs.Appended.{SchemaDiffers, first_difference, is_same_column, refusal, refusal_by, too_many}
 use Rattle.dataset.specs.Refusing.{is_same_at, is_same_found}
 
 -- ---- columns of one name and type
@@ -142,3 +147,19 @@ same_within [] zero x h = absurd (cc)
 same_within [] (suc col) x h = absurd (cc)
 same_within (y ∷ ys) zero x h = omega arith
 same_within (y ∷ ys) (suc col) x h = let rest = same_within ys col x h in omega (arith, rest)
+
+-- ---- the refusal
+
+pub refused_column : (dataset : Dataset) (schema : List Column) (per_part rows column : ℕ) → first_difference dataset.schema schema ≡ Some column
+    → refusal (catalog_in dataset) schema per_part rows ≡ Some (SchemaDiffers column)
+unfolding refusal
+refused_column dataset schema per_part rows column h = ap (λ o. refusal_by o _) h
+
+pub refused_by : (dataset : Dataset) (schema : List Column) (per_part rows parts next : ℕ) → first_difference dataset.schema schema ≡ None
+    → parts ≡ length dataset.parts + part_count per_part rows → next ≡ dataset.next + part_count per_part rows
+    → refusal (catalog_in dataset) schema per_part rows ≡ too_many parts next
+unfolding refusal
+refused_by dataset schema per_part rows parts next h p n =
+    ap (λ o. refusal_by o (too_many (length (map (λ (part : PartMeta). part.number) dataset.parts) + part_count per_part rows) (dataset.next + part_count per_part rows))) h
+    ∙ ap (λ k. too_many (k + part_count per_part rows) (dataset.next + part_count per_part rows)) (length-map dataset.parts (λ (part : PartMeta). part.number))
+    ∙ ap (λ k. too_many k (dataset.next + part_count per_part rows)) (sym p) ∙ ap (too_many parts) (sym n)

@@ -16,12 +16,13 @@ ghost use Rattle.dataset.specs.Stops.{IsSameTrouble};
 use crate::gathering::{codes_of, mask_of, numbers_of, texts_of};
 use crate::part_column::PartColumn;
 use column_file::{ColFault, write_column, write_mask};
-use fb_outside::{Store, Trouble};
+use fb_outside::{FileName, Store, Trouble};
 use fb_types::ColType;
 use part_meta::{FileKind, file_of};
 use std::alloc::Global;
 use std::sync::ledger::Ledger;
 use steps::Steps;
+use wah_words::Wah;
 
 /// Writes the files of the column, in their order.
 pub(crate) fn write_column_files<S: Store, L: Ledger>(
@@ -110,7 +111,24 @@ fn put_numbers<S: Store>(
 {
     let column = part.column;
     let name = file_of(alloc, part.dir, part.number, Some(&column.name), FileKind::Values)?;
-    match write_column(alloc, store, &name, column.ty, numbers) {
+    put_values(alloc, store, &name, column.ty, numbers)
+}
+
+#[tactic(auto, using(crate::proofs::FileLemmas::column_stopped))]
+fn put_values<S: Store>(
+    alloc: Global,
+    store: &mut S,
+    name: &FileName,
+    ty: ColType,
+    numbers: &[i128],
+) -> Result<(), Trouble>
+    requires width { IsSome (width_of ty) }
+    requires fit { All (λ number. ValueFits number ty) numbers.now }
+    ensures cause { HasCause (S.faults store.old) (S.faults store.new) (IsErrOf result Trouble.Failed) }
+    ensures files { PutsInOrder (record { name = name.now; bytes = values_bytes ty numbers.now } ∷ []) result (S.files store.old) (S.files store.new) }
+    ensures reads { S.reads store.new ≡ S.reads store.old }
+{
+    match write_column(alloc, store, name, ty, numbers) {
         Ok(()) => Ok(()),
         Err(fault) => Err(trouble_of(fault)),
     }
@@ -129,7 +147,22 @@ fn put_mask<S: Store, L: Ledger>(
 {
     let mask = mask_of(alloc, part)?;
     let name = file_of(alloc, part.dir, part.number, Some(&part.column.name), FileKind::Mask)?;
-    match write_mask(alloc, store, &name, &mask, steps) {
+    put_vector(alloc, store, &name, &mask, steps)
+}
+
+#[tactic(auto, using(crate::proofs::FileLemmas::column_stopped))]
+fn put_vector<S: Store, L: Ledger>(
+    alloc: Global,
+    store: &mut S,
+    name: &FileName,
+    mask: &Wah,
+    steps: &mut Steps<L>,
+) -> Result<(), Trouble>
+    ensures cause { HasCause (S.faults store.old) (S.faults store.new) (IsErrOf result Trouble.Failed) }
+    ensures files { PutsInOrder (record { name = name.now; bytes = spelling mask.now } ∷ []) result (S.files store.old) (S.files store.new) }
+    ensures reads { S.reads store.new ≡ S.reads store.old }
+{
+    match write_mask(alloc, store, name, mask, steps) {
         Ok(()) => Ok(()),
         Err(fault) => Err(trouble_of(fault)),
     }
@@ -148,6 +181,18 @@ fn put_bytes<S: Store>(
     ensures reads { S.reads store.new ≡ S.reads store.old }
 {
     let name = file_of(alloc, part.dir, part.number, Some(&part.column.name), kind)?;
+    put_file(store, &name, bytes)
+}
+
+pub(crate) fn put_file<S: Store>(
+    store: &mut S,
+    name: &FileName,
+    bytes: &[u8],
+) -> Result<(), Trouble>
+    ensures cause { HasCause (S.faults store.old) (S.faults store.new) (IsErrOf result Trouble.Failed) }
+    ensures files { PutsInOrder (record { name = name.now; bytes = bytes.now } ∷ []) result (S.files store.old) (S.files store.new) }
+    ensures reads { S.reads store.new ≡ S.reads store.old }
+{
     store.put(name.as_str(), bytes)
 }
 

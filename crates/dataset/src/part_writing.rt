@@ -13,7 +13,7 @@ ghost use Rattle.world.specs.PartFiles.{columns_files, part_data, part_files};
 ghost use Rattle.dataset.specs.Opened.{catalog_in};
 ghost use Rattle.dataset.specs.PartColumns.{part_from};
 
-use crate::column_writing::write_column_files;
+use crate::column_writing::{put_file, write_column_files};
 use crate::content::Dataset;
 use crate::growing::{count_of_parts, new_meta};
 use crate::part_column::PartColumn;
@@ -127,7 +127,7 @@ fn write_part_text<S: Store>(
 {
     let text = print_part(alloc, meta)?;
     let name = file_of(alloc, dir, meta.number, None, FileKind::PartText)?;
-    store.put(name.as_str(), &text)
+    put_file(store, &name, &text)
 }
 
 /// Writes the catalog of the dataset.
@@ -145,7 +145,7 @@ pub(crate) fn write_catalog<S: Store>(
     let catalog = catalog_for(alloc, dataset)?;
     let text = print_catalog(alloc, &catalog)?;
     let name = catalog_of(alloc, &dataset.dir)?;
-    store.put(name.as_str(), &text)
+    put_file(store, &name, &text)
 }
 
 fn catalog_for(alloc: Global, dataset: &Dataset) -> Result<Catalog, AllocError>

@@ -1,7 +1,9 @@
 -- Files that are put one after another: those of the columns, and of the parts.
-use Rattle.std.proofs.Common.{◌≡◌, ◌<◌, ◌≤◌, ◌+◌, ◌*◌, ◌-◌, zero, suc, ℕ, List, [], ◌∷◌, ◌++◌, Option, Some, None, Result, Ok, Err, IsErrOf, OnOk, length, map, take, drop, get_or, refl, sym, ap, subst, ◌∙◌, arith, append_assoc, append-nil, length-take, zero-add, IsSome, slice_get}
+use Rattle.std.proofs.Common.{◌≡◌, ◌<◌, ◌≤◌, ◌+◌, ◌*◌, ◌-◌, zero, suc, ℕ, List, [], ◌∷◌, ◌++◌, Option, Some, None, Result, Ok, Err, IsErrOf, OnOk, length, map, take, drop, get_or, refl, sym, ap, subst, ◌∙◌, arith, append_assoc, append-nil, length-take, zero-add, min, IsSome, slice_get}
 use Rattle.std.specs.List.{flat_map}
-use Rattle.std.proofs.lemmas.List.{take-append-drop, take_more, drop_more}
+use Rattle.std.proofs.lemmas.List.FromFn.{length-map-range_with_len, get_or-map-range_with_len}
+use Rattle.world.specs.Effects.{new_part, new_parts, part_count}
+use Rattle.std.proofs.lemmas.List.{take_min, take-append-drop, take_more, drop_more}
 use Rattle.std.proofs.lemmas.List.Concat.{flat_map-append}
 use Rattle.fb_outside.specs.Files.{Files, SameFiles, Puts, PutLeaves}
 use Rattle.fb_outside.specs.Puts.{File, PutsAll, PutsFront, PutsInOrder}
@@ -167,3 +169,28 @@ pub there_is : {X : Type 0} (xs : List X) (i : ℕ) (x : X) → i < length xs �
 there_is [] i x h is = absurd (omega arith)
 there_is (y ∷ ys) zero x h is = ap Some (sym is)
 there_is (y ∷ ys) (suc i) x h is = there_is ys i x (omega arith) is
+
+-- ---- the parts
+
+pub part_from_is : (table : Table) (next per_part place : ℕ) (meta : PartMeta) (first : ℕ)
+    → meta ≡ part_data table.schema (new_part next per_part table.records place) → first ≡ place * per_part
+    → part_from table meta.number first meta.rows ≡ new_part next per_part table.records place
+part_from_is table next per_part place meta first is at =
+    let rest = drop (place * per_part) table.records in
+    let rows : meta.rows ≡ min per_part (length rest) = ap (λ (m : PartMeta). m.rows) is ∙ length-take per_part rest in
+    let records : records_from table first meta.rows ≡ take per_part rest =
+        ap (λ k. take meta.rows (drop k table.records)) at ∙ ap (λ k. take k rest) rows ∙ take_min per_part rest in
+    let number : meta.number ≡ next + place = ap (λ (m : PartMeta). m.number) is in
+    λ i. record { number = number i; records = records i }
+
+pub parts_more : (f : Partition → List File) (next per_part place : ℕ) (records : List (List Cell)) → place < part_count per_part (length records)
+    → flat_map f (take (place + 1) (new_parts next per_part records)) ≡ flat_map f (take place (new_parts next per_part records)) ++ f (new_part next per_part records place)
+parts_more f next per_part place records h =
+    let count = part_count per_part (length records) in
+    let one = new_part next per_part records in
+    let len = length-map-range_with_len one 0 count in
+    all_more f place (new_parts next per_part records) (one place) (omega (arith, len))
+    ∙ ap (λ p. flat_map f (take place (new_parts next per_part records)) ++ f p) (get_or-map-range_with_len one 0 count place place (one place) h (omega arith))
+
+pub length-new_parts : (next per_part : ℕ) (records : List (List Cell)) → length (new_parts next per_part records) ≡ part_count per_part (length records)
+length-new_parts next per_part records = length-map-range_with_len (new_part next per_part records) 0 (part_count per_part (length records))

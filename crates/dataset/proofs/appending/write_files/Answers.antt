@@ -14,7 +14,7 @@ returns-in_err-write_parts-clause-files g c =
     let dataset = c.args.dataset.now in
     let parts = flat_map (part_files dataset.dir c.args.columns.now.schema) (new_parts c.args.next c.args.per_part c.args.columns.now.records) in
     let catalog : List File = record { name = catalog_name dataset.dir; bytes = catalog_text (catalog_in dataset) } ∷ [] in
-    PutsInOrder-err (parts ++ catalog) c.from_residual-in_err-write_parts.result _ _ c.from_residual-in_err-write_parts.ensures.0
+    PutsInOrder-err (parts ++ catalog) c.from_residual.result _ _ c.from_residual.ensures.0
     (PutsFront-more parts catalog _ _ c.in_err-write_parts.ensures.files)
 
 pub returns-clause-files : goal.returns-clause-files

@@ -15,7 +15,7 @@ returns-in_err-write_columns-clause-files g c =
     let meta = c.args.meta.now in
     let columns = columns_files dir (part_from table meta.number c.args.first meta.rows) 0 table.schema in
     let text : List File = record { name = part_name dir meta.number; bytes = part_text meta } ∷ [] in
-    PutsInOrder-err _ c.from_residual-in_err-write_columns.result _ _ c.from_residual-in_err-write_columns.ensures.0
+    PutsInOrder-err _ c.from_residual.result _ _ c.from_residual.ensures.0
     (subst (λ (fs : List File). PutsFront fs (g.S.Store.files c.args.store.now) (g.S.Store.files c.write_columns.new.store))
         (sym (part_files-is dir table meta c.args.first c.requires.within c.requires.schema))
         (PutsFront-more columns text _ _ c.in_err-write_columns.ensures.files))

@@ -2,9 +2,9 @@ use Rattle.std.proofs.Common.{◌≡◌, [], ◌∷◌, ◌++◌, ◌<◌, ◌�
 use Rattle.std.specs.List.{flat_map}
 use Rattle.std.proofs.lemmas.List.{take_all}
 use Rattle.fb_outside.specs.Puts.{File, PutsAll, PutsFront, PutsInOrder}
-use Rattle.fb_outside.proofs.PutLemmas.{PutsAll-none, PutsAll-append, PutsInOrder-err, PutsFront-append}
+use Rattle.fb_outside.proofs.PutLemmas.{PutsAll-none, PutsAll-append, PutsInOrder-err, PutsFront-all, PutsFront-append}
 use Rattle.world.specs.World.{Partition}
-use Rattle.world.specs.Effects.{new_part, new_parts}
+use Rattle.world.specs.Effects.{new_part, new_parts, part_count}
 use Rattle.world.specs.PartFiles.{part_files}
 use Rattle.dataset.proofs.FileLemmas.{front_of_all, length-new_parts, part_from_is, parts_more}
 use Rattle.dataset.proofs.part_writing.write_parts.Goals as goal
@@ -19,9 +19,11 @@ loop-place-preserved g c =
     let place = c.loop-place.place in
     let parts = new_parts c.args.next c.args.per_part table.records in
     let one = part_files dir table.schema in
-    let count = c.count_of_parts.ensures.count in
-    let there = ? in
-    let is = part_from_is table c.args.next c.args.per_part place c.in_ok-meta.meta _ c.in_ok-meta.ensures ? in
+    let counted : c.count_of_parts-count.result ≡ part_count c.args.per_part (length table.records) = c.count_of_parts-count.ensures.count ∙ ap (part_count c.args.per_part) c.rows.ensures in
+    let there : place < part_count c.args.per_part (length table.records) = omega (arith, counted, c.loop-place-test.true) in
+    let a = c.from-in-loop-place.ensures in
+    let b = c.from.ensures in
+    let is = part_from_is table c.args.next c.args.per_part place c.in_ok-meta.meta _ c.in_ok-meta.ensures (cc) in
     let more = parts_more one c.args.next c.args.per_part place table.records there in
     record {
       files = subst (λ (fs : List File). PutsAll fs (g.S.Store.files c.args.store.now) (g.S.Store.files c.write_part.new.store)) (sym more)
@@ -32,7 +34,11 @@ loop-place-preserved g c =
     }
 
 pub returns-in_err-meta-clause-files : goal.returns-in_err-meta-clause-files
-returns-in_err-meta-clause-files g c = ?
+returns-in_err-meta-clause-files g c =
+    let one = part_files c.args.dir.now c.args.columns.now.schema in
+    let parts = new_parts c.args.next c.args.per_part c.args.columns.now.records in
+    PutsInOrder-err (flat_map one parts) c.from_residual.result _ _ c.from_residual.ensures.0
+    (front_of_all one c.loop-place.place parts _ _ (PutsFront-all (flat_map one (take c.loop-place.place parts)) _ _ c.loop-place.invariant.files))
 
 pub returns-in_err-write_part-clause-files : goal.returns-in_err-write_part-clause-files
 returns-in_err-write_part-clause-files g c =
@@ -41,9 +47,11 @@ returns-in_err-write_part-clause-files g c =
     let place = c.loop-place.place in
     let parts = new_parts c.args.next c.args.per_part table.records in
     let one = part_files dir table.schema in
-    let count = c.count_of_parts.ensures.count in
-    let there = ? in
-    let is = part_from_is table c.args.next c.args.per_part place c.in_ok-meta.meta _ c.in_ok-meta.ensures ? in
+    let counted : c.count_of_parts-count.result ≡ part_count c.args.per_part (length table.records) = c.count_of_parts-count.ensures.count ∙ ap (part_count c.args.per_part) c.rows.ensures in
+    let there : place < part_count c.args.per_part (length table.records) = omega (arith, counted, c.loop-place-test.true) in
+    let a = c.from-in-loop-place.ensures in
+    let b = c.from.ensures in
+    let is = part_from_is table c.args.next c.args.per_part place c.in_ok-meta.meta _ c.in_ok-meta.ensures (cc) in
     let more = parts_more one c.args.next c.args.per_part place table.records there in
     PutsInOrder-err (flat_map one parts) c.from_residual-in_err-write_part.result _ _ c.from_residual-in_err-write_part.ensures.0
     (front_of_all one (place + 1) parts _ _
@@ -54,6 +62,8 @@ returns-in_err-write_part-clause-files g c =
 pub returns-clause-files : goal.returns-clause-files
 returns-clause-files g c =
     let parts = new_parts c.args.next c.args.per_part c.args.columns.now.records in
-    let all : length parts ≤ c.loop-place.place = ? in
+    let counted : c.count_of_parts-count.result ≡ part_count c.args.per_part (length c.args.columns.now.records) = c.count_of_parts-count.ensures.count ∙ ap (part_count c.args.per_part) c.rows.ensures in
+    let len = length-new_parts c.args.next c.args.per_part c.args.columns.now.records in
+    let all : length parts ≤ c.loop-place.place = omega (arith, counted, len, c.loop-place-test.false) in
     subst (λ (ps : List Partition). PutsAll (flat_map (part_files c.args.dir.now c.args.columns.now.schema) ps) (g.S.Store.files c.args.store.now) (g.S.Store.files c.loop-place.store))
         (take_all c.loop-place.place parts all) c.loop-place.invariant.files

@@ -1,9 +1,9 @@
 -- A dataset with new parts, and without them again.
 use Rattle.std.proofs.lemmas.Bool.{ltb-false, ltb-true}
-use Rattle.std.proofs.Common.{◌≡◌, ◌⊎◌, inl, inr, nat_lt, true, false, ◌<◌, ◌≤◌, ◌+◌, ◌*◌, ◌-◌, zero, suc, ℕ, List, [], ◌∷◌, ◌++◌, Option, Some, None, MatchOption, min, length, map, take, drop, get_or, refl, sym, ap, subst, ◌∙◌, arith, append_assoc, append-nil, length-append, length-take, length-drop, length-map}
+use Rattle.std.proofs.Common.{◌≡◌, ◌⊎◌, inl, inr, nat_lt, true, false, ◌<◌, ◌≤◌, ◌+◌, ◌*◌, ◌-◌, zero, suc, ℕ, List, [], ◌∷◌, ◌++◌, Option, Some, None, MatchOption, min, length, map, take, drop, get_or, refl, sym, ap, subst, ◌∙◌, arith, append_assoc, append-nil, length-append, length-take, length-drop}
 use Rattle.std.specs.List.{All, AllPairs, range_with_len}
 use Rattle.std.proofs.Math.Seq.{take-append_seam}
-use Rattle.std.proofs.lemmas.List.{take_all, take-append-le, map-append, get_or_append_left}
+use Rattle.std.proofs.lemmas.List.{length-map, take_all, take-append-le, map-append, get_or_append_left}
 use Rattle.std.proofs.lemmas.List.FromFn.{length-map-range_with_len, length-range_with_len, get_or-range_with_len, map-range_with_len_more}
 use Rattle.fb_outside.specs.Names.{IsPath}
 use Rattle.fb_types.specs.declared.cells.Cell.{Cell}
@@ -93,9 +93,9 @@ le_or_lt m n = elim (nat_lt n m) as (λ b. nat_lt n m ≡ b → (m ≤ n) ⊎ (n
     ] refl
 
 get_or_behind : (xs ys : List ℕ) (i : ℕ) (d : ℕ) → length xs ≤ i → get_or (xs ++ ys) i d ≡ get_or ys (i - length xs) d
-get_or_behind [] ys i d h = refl
+get_or_behind [] ys i d h = ap (λ k. get_or ys k d) (omega arith)
 get_or_behind (x ∷ xs) ys zero d h = absurd (omega arith)
-get_or_behind (x ∷ xs) ys (suc i) d h = get_or_behind xs ys i d (omega arith)
+get_or_behind (x ∷ xs) ys (suc i) d h = get_or_behind xs ys i d (omega arith) ∙ ap (λ k. get_or ys k d) (omega arith)
 
 -- an item of such a list stands in front, or is one of the numbers behind
 record At (xs : List ℕ) (next n i d : ℕ) : Type 0 where
@@ -104,7 +104,7 @@ record At (xs : List ℕ) (next n i d : ℕ) : Type 0 where
 
 item : (xs : List ℕ) (next n i d : ℕ) → At xs next n i d
 item xs next n i d = record {
-  front = λ h. get_or_append_left xs (range_with_len next n) i d h;
+  front = λ h. get_or_append_left xs (range_with_len next n) d i h;
   back = λ h k. get_or_behind xs (range_with_len next n) i d h ∙ get_or-range_with_len next n (i - length xs) d (omega arith);
 }
 

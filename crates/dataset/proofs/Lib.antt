@@ -7,3 +7,8 @@ pub mod FitLemmas
 pub mod ColumnLemmas
 pub mod LookLemmas
 pub mod LoadLemmas
+pub mod CellLemmas
+pub mod CodeLemmas
+pub mod FileLemmas
+pub mod GrowingLemmas
+pub mod RefusalLemmas

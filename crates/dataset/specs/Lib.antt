@@ -6,3 +6,7 @@ pub mod PartColumns
 pub mod Looks
 pub mod Found
 pub mod Loads
+pub mod Stops
+pub mod Growing
+pub mod Refusing
+pub mod WrittenColumns

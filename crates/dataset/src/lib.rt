@@ -2,12 +2,18 @@
 #![tactic(auto)]
 
 mod appending;
+mod column_writing;
 mod content;
 mod fault;
+mod gathering;
+mod growing;
 mod laws;
 mod load_law;
 mod opening;
+mod part_column;
 mod part_columns;
+mod part_writing;
+mod refusing;
 #[cfg(test)]
 mod tests;
 

@@ -114,12 +114,37 @@ code_seen words word =
           ∙ ap (λ n. Some (n + 1)) (sym (place_past (bytes_eq word) words e))
     ] refl
 
+place-front : (p : List ℕ → Bool) (words : List (List ℕ)) (word : List ℕ) → list_any p words ≡ true
+    → position_or_len p (words ++ word ∷ []) ≡ position_or_len p words
+place-front p [] word h = absurd (cc)
+place-front p (w ∷ ws) word h =
+    elim (p w) as (λ b. (b || list_any p ws) ≡ true → cond (not b) (1 + position_or_len p (ws ++ word ∷ [])) 0 ≡ cond (not b) (1 + position_or_len p ws) 0) [
+      | true ↦ λ e. refl
+      | false ↦ λ e. ap (λ n. 1 + n) (place-front p ws word e)
+    ] h
+
 -- a word that isn't there has no code
 pub no_code : (words : List (List ℕ)) (word : List ℕ) → list_any (bytes_eq word) words ≡ false → code_in words word ≡ None
 no_code words word h =
     let past = place_past (bytes_eq word) words h in
     ap (λ b. option_map (λ k. k + 1) (cond b (Some (position_or_len (bytes_eq word) words)) None))
     (le-ltb (position_or_len (bytes_eq word) words) (length words) (omega arith))
+
+-- a later word doesn't change an earlier one's code
+pub code_kept : (words : List (List ℕ)) (word new : List ℕ) (code : ℕ) → code_in words word ≡ Some code → code_in (with_word words new) word ≡ Some code
+code_kept words word new code is =
+    elim (list_any (bytes_eq new) words) as (λ b. code_in (cond b words (words ++ new ∷ [])) word ≡ Some code) [
+      | true ↦ is
+      | false ↦ behind (list_any (bytes_eq word) words) refl
+    ]
+  where
+    behind : (b : Bool) → list_any (bytes_eq word) words ≡ b → code_in (words ++ new ∷ []) word ≡ Some code
+    behind false e = let none : code_in words word ≡ None = no_code words word e in absurd (cc)
+    behind true e =
+        let within = place_within (bytes_eq word) words e in
+        let one_more : position_or_len (bytes_eq word) words < length (words ++ new ∷ []) = omega (arith, length-append words (new ∷ [])) in
+        code_at (words ++ new ∷ []) word (position_or_len (bytes_eq word) words) (place-front (bytes_eq word) words new e) one_more
+        ∙ sym (code_at words word (position_or_len (bytes_eq word) words) refl within) ∙ is
 
 -- ---- dictionaries
 

@@ -3,3 +3,4 @@ pub mod DictionaryFile
 pub mod OpenedDictionary
 pub mod Texts
 pub mod OpenedTexts
+pub mod TextFiles

@@ -10,8 +10,11 @@ ghost use Rattle.text_column.specs.Texts.{starts_bytes, starts_of, text_file, te
 ghost use Rattle.text_column.specs.Words.{IsDictionary, IsWord, code_in, first_seen, with_word, word_in};
 ghost use Rattle.text_column.specs.declared.fault.DicFault.{DicFault};
 
-/// A code is of one word and a word has one code; adding a column's words in turn makes a dictionary.
+/// A code is of one word and a word has one code, which no later word changes; adding a column's words in turn makes a
+/// dictionary.
 pub fn codes_and_words()
+    ensures kept { (words : List (List ℕ)) (word new : List ℕ) (code : ℕ) → code_in words word ≡ Some code
+        → code_in (with_word words new) word ≡ Some code }
     ensures both { (words : List (List ℕ)) (word : List ℕ) (code : ℕ) → IsDictionary words
         → (code_in words word ≡ Some code) ↔ (word_in words code ≡ Some word) }
     ensures seen { (words : List (List ℕ)) (word : List ℕ) → first_seen (words ++ word ∷ []) ≡ with_word (first_seen words) word }

@@ -1,6 +1,6 @@
 //! The table of a load: its schema, its text and its records.
 
-ghost use Rattle.std.specs.Prelude.{◌≡◌, ◌≤◌, ⊤, false, None, Ok, Err, IfErr, IfOk, IsErrOf, IsSome, IsUtf8, OnOk, is_ok};
+ghost use Rattle.std.specs.Prelude.{◌≡◌, ◌≤◌, ⊤, true, false, None, Ok, Err, IfErr, IfOk, IsErrOf, IsSome, IsUtf8, OnOk, is_ok};
 ghost use Rattle.fb_outside.specs.Causes.{HasCause};
 ghost use Rattle.fb_outside.specs.Files.{SameFiles};
 ghost use Rattle.fb_outside.specs.Streams.{ForSomeInput, IsAtEnd};

@@ -1,5 +1,5 @@
 -- What each step of a load tells, of what the calls below it tell.
-use Rattle.std.proofs.Common.{◌≡◌, ◌≢◌, ◌<◌, ◌≤◌, ◌+◌, ◌×◌, inl, inr, ℕ, Bool, true, false, List, [], ◌++◌, length, nat_le, Option, Some, None, IfSome, IsSome, option_map, unwrap_or, Result, Ok, Err, is_ok, refl, sym, ap, subst, ◌∙◌, arith, length-append}
+use Rattle.std.proofs.Common.{◌≡◌, ◌≢◌, ◌<◌, ◌≤◌, ◌+◌, inl, inr, ℕ, Bool, true, false, List, [], ◌++◌, length, nat_le, Option, Some, None, IfSome, IfOk, IsSome, option_map, unwrap_or, Result, Ok, Err, is_ok, refl, sym, ap, subst, ◌∙◌, arith, length-append}
 use Rattle.std.specs.Prelude.{⊤}
 use Rattle.std.proofs.lemmas.Bool.{le-leb}
 use Rattle.std.proofs.lemmas.List.{append-nil}
@@ -32,6 +32,11 @@ StopsBy-weaker P Q I J S R refused failed store (Refused why) h = refused why h
 StopsBy-weaker P Q I J S R refused failed store ReadFault h = failed h
 StopsBy-weaker P Q I J S R refused failed store StoreFault h = store h
 StopsBy-weaker P Q I J S R refused failed store OutOfMemory h = tt
+
+-- two facts of one answer
+pub IfOk-two : {X E : Type 0} (r : Result X E) (P Q R : X → Type 0) → ((x : X) → P x → Q x → R x) → IfOk r P → IfOk r Q → IfOk r R
+IfOk-two (Ok x) P Q R f p q = f x p q
+IfOk-two (Err e) P Q R f p q = tt
 
 -- a fault of the outside shows what holds where it is asked
 pub StopsBy-input : (P : Status → Type 0) (I S : Type 0) (stop : Stop) → stop ≡ ReadFault → StopsBy P I S stop → I
@@ -103,6 +108,9 @@ length_refused : {T : Type 0} (size : ℕ) (given : Result T Status) → most_in
     → within_limit size given ≡ Err (status.Limit limit.Input size most_input_bytes)
 length_refused size given h = rw (above size most_input_bytes h) refl
 
+abbrev lengths : Option (List ℕ) → Option ℕ
+lengths file = option_map length file
+
 file_too_long : (name : List ℕ) (files : Option Files) (have : ℕ) → IfSome files (λ m. option_map length (file_at m name) ≡ Some have)
     → most_input_bytes < have → GivesFile name files (Err (status.Limit limit.Input have most_input_bytes))
 file_too_long name None have told over =
@@ -110,9 +118,9 @@ file_too_long name None have told over =
 file_too_long name (Some m) have told over = by (file_at m name) refl
   where
     by : (file : Option (List ℕ)) → file_at m name ≡ file → GivesFile name (Some m) (Err (status.Limit limit.Input have most_input_bytes))
-    by None e = let no : option_map length None ≡ Some have = subst (λ (f : Option (List ℕ)). option_map length f ≡ Some have) e told in absurd (cc)
+    by None e = let none : lengths None ≡ Some have = subst (λ (f : Option (List ℕ)). lengths f ≡ Some have) e told in absurd (cc)
     by (Some bytes) e =
-        let some : option_map length (Some bytes) ≡ Some have = subst (λ (f : Option (List ℕ)). option_map length f ≡ Some have) e told in
+        let some : lengths (Some bytes) ≡ Some have = subst (λ (f : Option (List ℕ)). lengths f ≡ Some have) e told in
         let long : length bytes ≡ have = cc in
         record {
           reading = Bytes bytes;
@@ -126,8 +134,8 @@ pub file_over : (name : List ℕ) (files : Option Files) (have told : ℕ) → I
 file_over name files have told len over = rw over.1 (file_too_long name files have len over.0)
 
 pub file_short : (name : List ℕ) (files : Option Files) → IfSome files (λ m. ⊥) → GivesFile name files (Err (status.Damaged name Length 0 0))
-file_short name None no = record { reading = CutShort 0; told = tt; is = refl }
-file_short name (Some m) no = absurd no
+file_short name None h = record { reading = CutShort 0; told = tt; is = refl }
+file_short name (Some m) h = absurd h
 
 -- ---- the text
 

@@ -11,4 +11,5 @@ returns-in-Err-TooLong-clause-stop g c =
     (rw c.in-Err-TooLong.field-0-is at c.in-Err-TooLong.ensures.over))
 
 pub returns-in_ok-file-in-Err-Short-clause-stop : goal.returns-in_ok-file-in-Err-Short-clause-stop
-returns-in_ok-file-in-Err-Short-clause-stop g c = ?
+returns-in_ok-file-in-Err-Short-clause-stop g c =
+    rw c.in_ok-file-in-Err-Short.ensures (file_short c.args.name.now _ (rw c.in-Err-Short.field-0-is at c.in-Err-Short.ensures.fault))

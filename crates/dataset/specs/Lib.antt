@@ -3,3 +3,5 @@ pub mod Damage
 pub mod Appended
 pub mod Found
 pub mod Loads
+pub mod InWorld
+pub mod PartColumns

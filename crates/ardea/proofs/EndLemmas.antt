@@ -91,14 +91,13 @@ situation_of load left files table r t k =
 pub ends_dataset : (load : Load) (left : Option (List ℕ)) (old new : Option Files) (table : Table) (stop : Stop) → SameFiles old new
     → GivesTable load left old (Ok table) → StopsBy (λ why. GivesCatalog load.dir table.schema old (Err why)) ⊥ ⊤ stop
     → Ends load left old new (Err stop)
-ends_dataset load left old new table (Refused why) same t k =
-    (
-      record {
-        situation = situation_of load left old table (Err why) t k;
-        is = result_catalog load t.input t.readings k.found table why t.is k.is;
-      },
-      same,
-    )
+ends_dataset load left old new table (Refused why) same t k = (
+  record {
+    situation = situation_of load left old table (Err why) t k;
+    is = result_catalog load t.input t.readings k.found table why t.is k.is;
+  },
+  same,
+)
 ends_dataset load left old new table ReadFault same t k = absurd k
 ends_dataset load left old new table StoreFault same t k = inl same
 ends_dataset load left old new table OutOfMemory same t k = inl same
@@ -139,14 +138,13 @@ pub ends_add : (load : Load) (left : Option (List ℕ)) (old new : Option Files)
     → IsReady load left old table catalog → AddStops load table catalog stop
     → (refusal_of catalog load.per_part table ≢ None → SameFiles old new)
     → PutsFront (append_files load.dir catalog load.per_part table.records) old new → Ends load left old new (Err stop)
-ends_add load left old new table catalog (Refused why) h stops kept put =
-    (
-      record {
-        situation = situation_of load left old table (Ok catalog) h.table_read h.opened;
-        is = result_is load h.table_read.input h.table_read.readings h.opened.found table catalog h.table_read.is h.opened.is ∙ stops;
-      },
-      kept (not_none table (refusal_of catalog load.per_part table) why stops),
-    )
+ends_add load left old new table catalog (Refused why) h stops kept put = (
+  record {
+    situation = situation_of load left old table (Ok catalog) h.table_read h.opened;
+    is = result_is load h.table_read.input h.table_read.readings h.opened.found table catalog h.table_read.is h.opened.is ∙ stops;
+  },
+  kept (not_none table (refusal_of catalog load.per_part table) why stops),
+)
 ends_add load left old new table catalog ReadFault h stops kept put = absurd stops
 ends_add load left old new table catalog StoreFault h stops kept put =
     inr (record { table = table; catalog = catalog; goes = goes_through load left old table catalog h stops; put = put })

@@ -2,6 +2,7 @@
 #![tactic(auto)]
 
 mod adding;
+mod laws;
 mod reading;
 
 ghost use Rattle.std.specs.Prelude.{◌≡◌, true, false, None, IsErrOf, OnOk};
@@ -15,6 +16,7 @@ use crate::adding::{add, dataset_of};
 use crate::reading::table_of;
 use command_words::Load;
 use fb_outside::{Source, Store};
+pub use laws::the_load_in_a_world;
 use statuses::Stop;
 use std::alloc::Global;
 use std::sync::ledger::Ledger;
@@ -52,6 +54,10 @@ pub fn load<I: Source, S: Store, L: Ledger>(
 {
     let columns = table_of(alloc, load, input, store)?;
     let mut dataset = dataset_of(alloc, &load.dir, columns.schema(), store)?;
-    add(alloc, store, &mut dataset, &columns, load.per_part as u32, steps)?;
+    let per_part = load.per_part as u32;
+    add(alloc, store, &mut dataset, &columns, per_part, steps)?;
     Ok(columns.rows())
 }
+
+#[cfg(test)]
+mod tests;

@@ -111,11 +111,7 @@ fn text_of_input<I: Source>(alloc: Global, input: &mut I) -> Result<Vec<u8>, Sto
     }
 }
 
-fn text_of_file<S: Store>(
-    alloc: Global,
-    name: &FileName,
-    store: &mut S,
-) -> Result<Vec<u8>, Stop>
+fn text_of_file<S: Store>(alloc: Global, name: &FileName, store: &mut S) -> Result<Vec<u8>, Stop>
     ensures cause { HasCause (S.faults store.old) (S.faults store.new) (IsErrOf result Stop.StoreFault) }
     ensures files { SameFiles (S.files store.old) (S.files store.new) }
     ensures text { IfOk result (λ text. GivesFile name.now (S.files store.old) (Ok text.items)) }

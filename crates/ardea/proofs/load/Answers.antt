@@ -51,7 +51,7 @@ returns-in_err-add-clause-ends g c =
     let put : PutsFront list files (g.S.Store.files c.add.new.store) =
     subst (λ (f : Option Files). PutsFront list f (g.S.Store.files c.add.new.store)) same
     (subst (λ (dir : List ℕ). PutsFront (append_files dir catalog c.args.load.now.per_part c.in_ok-columns.columns.records)
-        (g.S.Store.files c.dataset_of.new.store) (g.S.Store.files c.add.new.store))
+    (g.S.Store.files c.dataset_of.new.store) (g.S.Store.files c.add.new.store))
     c.in_ok-dataset.ensures.path c.in_err-add.ensures.files) in
     rw (p.1, p.2)
     (ends_add c.args.load.now _ files _ c.in_ok-columns.columns catalog c.in_err-add.field-0.0 ready c.in_err-add.ensures.stop
@@ -77,6 +77,6 @@ returns-clause-ends g c =
     let put : PutsAll list files (g.S.Store.files c.add.new.store) =
     subst (λ (f : Option Files). PutsAll list f (g.S.Store.files c.add.new.store)) same
     (subst (λ (dir : List ℕ). PutsAll (append_files dir catalog c.args.load.now.per_part c.in_ok-columns.columns.records)
-        (g.S.Store.files c.dataset_of.new.store) (g.S.Store.files c.add.new.store))
+    (g.S.Store.files c.dataset_of.new.store) (g.S.Store.files c.add.new.store))
     c.in_ok-dataset.ensures.path c.in_ok-add.ensures.files) in
     ends_done c.args.load.now _ files _ c.in_ok-columns.columns catalog c.rows.result ready c.in_ok-add.ensures.accepts c.rows.ensures put

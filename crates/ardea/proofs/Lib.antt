@@ -1,0 +1,4 @@
+pub mod LoadLemmas
+pub mod AnswerLemmas
+pub mod EndLemmas
+pub mod WorldLemmas

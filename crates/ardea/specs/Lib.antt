@@ -1,3 +1,4 @@
 pub mod Load
+pub mod Answers
 pub mod Done
 pub mod Order

@@ -1,5 +1,5 @@
 -- What a load answers: the refusal whose cause comes first in the order below, or the table that is loaded.
-use Rattle.std.specs.Prelude.{◌≡◌, ℕ, ◌+◌, List, [], ◌∷◌, ◌++◌, length, decimal, nat_le, Option, Some, None, IfSome, Result, Ok, Err, if◌then◌else◌}
+use Rattle.std.specs.Prelude.{◌≡◌, ℕ, ◌+◌, List, [], ◌∷◌, ◌++◌, length, decimal, nat_le, Option, Some, None, IfSome, IsOk, Result, Ok, Err, if◌then◌else◌}
 use lib.Chars.{codes}
 use Rattle.std.specs.FinMap.{get}
 use Rattle.fb_outside.specs.Files.{Files, file_at}
@@ -139,14 +139,15 @@ load_outcome load input world =
 
 -- ---- over a source and a store, which may not tell what they have
 
--- An input, what files there are, and what the path has: those that the source and the store tell.
+-- An input, what files there are, and what the path has: those that the source and the store tell. What the path has is
+-- looked at only where the table isn't refused.
 pub record Situation (load : Load) (left : Option (List ℕ)) (files : Option Files) : Type 0 where
   pub input : List ℕ
   pub readings : List ℕ → Reading
   pub found : Found
   pub input_told : IfSome left (λ bytes. bytes ≡ input)
   pub readings_told : IfSome files (λ m. (name : List ℕ) → readings name ≡ reading_of (file_at m name))
-  pub found_told : IfSome files (λ m. IsFound m load.dir found)
+  pub found_told : IsOk (load_table load input readings) → IfSome files (λ m. IsFound m load.dir found)
 
 -- the definition's answer in some such situation
 pub record Gives (load : Load) (left : Option (List ℕ)) (files : Option Files) (result : Result Table Status) : Type 0 where

@@ -1,3 +1,4 @@
+pub mod LoadLemmas
 pub mod OpeningLemmas
 pub mod PartsLemmas
 pub mod ListLemmas

@@ -7,7 +7,6 @@ pub mod WorldLemmas
 pub mod FitLemmas
 pub mod ColumnLemmas
 pub mod LookLemmas
-pub mod LoadLemmas
 pub mod CellLemmas
 pub mod CodeLemmas
 pub mod FileLemmas

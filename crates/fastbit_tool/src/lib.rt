@@ -71,3 +71,6 @@ pub fn run<I: Source, S: Store, K: Sink, L: Ledger>(
         Err(_) => Status::OutOfMemory,
     }
 }
+
+#[cfg(test)]
+mod tests;

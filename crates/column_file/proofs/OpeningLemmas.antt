@@ -7,7 +7,8 @@ use Rattle.wah_words.proofs.BytesLemmas.{vector_again}
 use Rattle.fb_types.specs.declared.types.ColType.{ColType}
 use Rattle.column_file.specs.Values.{values_bytes, width_in}
 use Rattle.column_file.proofs.ValuesLemmas.{length-values_bytes}
-use Rattle.column_file.specs.Opening.{Opens, to_its_end, mask_in, column_in}
+use Rattle.answers.specs.Answers.{Answers}
+use Rattle.column_file.specs.Opening.{to_its_end, mask_in, column_in, told_by_files}
 use Rattle.column_file.specs.declared.fault.ColFault.{ColFault}
 use Rattle.column_file.specs.declared.fault.ColFault.TheVariants.{WrongLength, MaskTrailing, MaskLength}
 
@@ -27,9 +28,9 @@ told_bytes (Some m) name bytes other given told = let both : Some bytes ≡ Some
 
 -- what is spelled as a mask of so many rows is opened as that mask
 pub opens_spelled : (rows : ℕ) (bits : List Bool) (bytes : List ℕ) (opened : Result (List Bool) ColFault) → length bits ≡ rows → length bits ≤ 4194304 → bytes ≡ spelling bits
-    → Opens opened (to_its_end rows (length bytes) (vector_at bytes)) → Opens opened (Ok bits)
+    → Answers told_by_files opened (to_its_end rows (length bytes) (vector_at bytes)) → Answers told_by_files opened (Ok bits)
 opens_spelled rows bits bytes opened is limit spelled h =
-    subst (Opens opened) (ap (λ b. to_its_end rows (length b) (vector_at b)) spelled ∙ spelled_to_end rows bits is limit) h
+    subst (Answers told_by_files opened) (ap (λ b. to_its_end rows (length b) (vector_at b)) spelled ∙ spelled_to_end rows bits is limit) h
 
 -- the two files of a column
 pub column_opens : (ty : ColType) (values : List ℤ) (bits : List Bool) → length bits ≤ 4194304 → length bits ≡ length values

@@ -11,7 +11,8 @@ use Rattle.std.proofs.lemmas.Slice.Eq.{bytes_eq-Decides}
 use Rattle.std.proofs.Math.Dec.{eqb-suc-zero}
 use Rattle.text_column.specs.Words.{IsWord, IsDictionary, code_in, word_in, with_word, first_seen}
 use Rattle.text_column.specs.DictionaryFile.{IsCutOff, word_bytes, words_bytes, dictionary_bytes, size_at, count_at, sized_at, word_at, taken, taken_as, with_rest, next_in, to_its_end, and_then, words_in, counted_in, dictionary_in}
-use Rattle.text_column.specs.OpenedDictionary.{OpensWords, Says}
+use Rattle.answers.specs.Answers.{Answers, Tells}
+use Rattle.text_column.specs.OpenedDictionary.{told_by_file}
 use Rattle.text_column.specs.declared.fault.DicFault.{DicFault}
 use Rattle.text_column.specs.declared.fault.DicFault.TheVariants.{Short, TooMany, Empty, Repeated, Trailing, Missing, Store, OutOfMemory}
 use Rattle.text_column.proofs.NumberLemmas.{AreBytes, AreBytes-take, AreBytes-drop, wide_16, wide_32, number_front, number_rest, number_spelled}
@@ -36,7 +37,7 @@ new_as words (b ∷ bs) some new = ap (λ x. cond x (Err (Repeated (length words
 
 -- what stops at the next word stops the whole
 pub stops_next : (fault : DicFault) (next : Result (List (List ℕ) × List ℕ) DicFault) (go : List (List ℕ) × List ℕ → Result (List (List ℕ)) DicFault)
-    (given : Result (List (List ℕ)) DicFault) → given ≡ and_then next go → Says fault (next ≡ Err fault) → OpensWords (Err fault) given
+    (given : Result (List (List ℕ)) DicFault) → given ≡ and_then next go → Tells told_by_file (λ told. next ≡ Err told) fault → Answers told_by_file (Err fault) given
 stops_next Short next go given is h = is ∙ ap (λ r. and_then r go) h
 stops_next TooMany next go given is h = is ∙ ap (λ r. and_then r go) h
 stops_next (Empty code) next go given is h = is ∙ ap (λ r. and_then r go) h
@@ -178,9 +179,9 @@ dictionary_again words h =
     ∙ words_read [] words h
 
 -- what is spelled as a dictionary is opened as that dictionary
-pub opens_spelled : (opened : Result (List (List ℕ)) DicFault) (bytes : List ℕ) (words : List (List ℕ)) → OpensWords opened (dictionary_in bytes)
-    → IsDictionary words → bytes ≡ dictionary_bytes words → OpensWords opened (Ok words)
-opens_spelled opened bytes words h valid is = subst (OpensWords opened) (ap dictionary_in is ∙ dictionary_again words valid) h
+pub opens_spelled : (opened : Result (List (List ℕ)) DicFault) (bytes : List ℕ) (words : List (List ℕ)) → Answers told_by_file opened (dictionary_in bytes)
+    → IsDictionary words → bytes ≡ dictionary_bytes words → Answers told_by_file opened (Ok words)
+opens_spelled opened bytes words h valid is = subst (Answers told_by_file opened) (ap dictionary_in is ∙ dictionary_again words valid) h
 
 -- ---- the loop that writes
 

@@ -5,7 +5,8 @@ use Rattle.std.specs.Int.{to_le_bytes}
 use Rattle.std.proofs.lemmas.Bool.{ltb-true, ltb-false}
 use Rattle.text_column.specs.Words.{IsDictionary}
 use Rattle.text_column.specs.DictionaryFile.{Begins, IsFaultOf, word_bytes, words_bytes, dictionary_bytes, count_at, and_then, words_in, counted_in, dictionary_in}
-use Rattle.text_column.specs.OpenedDictionary.{OpensWords}
+use Rattle.answers.specs.Answers.{Answers}
+use Rattle.text_column.specs.OpenedDictionary.{told_by_file}
 use Rattle.text_column.specs.declared.fault.DicFault.{DicFault}
 use Rattle.text_column.specs.declared.fault.DicFault.TheVariants.{Short, TooMany}
 use Rattle.text_column.proofs.NumberLemmas.{AreBytes, AreBytes-drop, wide_32, number_spelled}
@@ -85,7 +86,7 @@ found_dictionary bytes words are h = subst (Found bytes []) h (found_in bytes ar
 pub found_fault : (bytes : List ℕ) (fault : DicFault) → AreBytes bytes → dictionary_in bytes ≡ Err fault → IsFaultOf bytes fault
 found_fault bytes fault are h = subst (Found bytes []) h (found_in bytes are)
 
-pub found_result : (bytes : List ℕ) (result : Result (List (List ℕ)) DicFault) → AreBytes bytes → OpensWords result (dictionary_in bytes)
+pub found_result : (bytes : List ℕ) (result : Result (List (List ℕ)) DicFault) → AreBytes bytes → Answers told_by_file result (dictionary_in bytes)
     → IfOk result (λ words. bytes ≡ dictionary_bytes words)
 found_result bytes (Ok words) are h = (found_dictionary bytes words are h).1
 found_result bytes (Err fault) are h = tt

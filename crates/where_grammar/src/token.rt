@@ -7,7 +7,8 @@ ghost use Rattle.std.specs.Str.{str_to_ascii_lowercase};
 ghost use Rattle.lexing.specs.Digits.{signed};
 ghost use Rattle.where_grammar.specs.declared.clause.QueryKind.{QueryKind};
 ghost use Rattle.where_grammar.specs.declared.token.Placed.{Placed};
-ghost use Rattle.where_grammar.specs.Language.{Gives, HasTokens, IsFaultOf, NoTokens, read_tokens};
+ghost use Rattle.answers.specs.Answers.{Answers, Tells};
+ghost use Rattle.where_grammar.specs.Language.{HasTokens, NoTokens, read_tokens, refusal};
 ghost use Rattle.where_grammar.specs.Shorter.{reader-shorter};
 ghost use Rattle.where_grammar.specs.Tokens.{begins_word, double_sign, excess, fits_128, in_word, number_at, reader, seen, sign_at, single_sign, text_at, token_at, unquoted, within_limits, word_at};
 
@@ -253,7 +254,7 @@ const MAX_LENGTH: usize = 1_048_576;
 
 #[tactic(auto, unfolding(crate::specs::Language::read_tokens))]
 fn lexed(alloc: Global, text: &str) -> Result<Items<Placed>, ClauseFault>
-    ensures { Gives result (read_tokens text.now) }
+    ensures { Answers refusal result (read_tokens text.now) }
 {
     if text.len() > MAX_LENGTH {
         return Err(bad(QueryKind::Length));
@@ -270,13 +271,13 @@ fn lexed(alloc: Global, text: &str) -> Result<Items<Placed>, ClauseFault>
 pub fn tokens(alloc: Global, text: &str) -> Result<Items<Placed>, ClauseFault>
     // What is given are the text's tokens, and where it has tokens, they are given.
     ensures found { IfOk result (HasTokens text.now) }
-    ensures only { (tokens : List Placed) → HasTokens text.now tokens → Gives result (Ok tokens) }
+    ensures only { (tokens : List Placed) → HasTokens text.now tokens → Answers refusal result (Ok tokens) }
 
     // A refusal is the first one that holds, and where one holds, it is given.
-    ensures refused { IfErr result (IsFaultOf (NoTokens text.now)) }
-    ensures refuses { (kind : QueryKind) → NoTokens text.now kind → Gives {A = List Placed} result (Err kind) }
+    ensures refused { IfErr result (Tells refusal (NoTokens text.now)) }
+    ensures refuses { (kind : QueryKind) → NoTokens text.now kind → Answers {T = List Placed} refusal result (Err kind) }
 
-    ensures exact { Gives result (read_tokens text.now) }
+    ensures exact { Answers refusal result (read_tokens text.now) }
 {
     lexed(alloc, text)
 }

@@ -56,12 +56,12 @@ none_read : (tokens : List Placed) (o : Option Clause) (k : QueryKind) → claus
 none_read tokens None k e = (cc, refl)
 none_read tokens (Some c) k e = absurd cc
 
-pub read_refused : (tokens : List Placed) (r : Result ClauseRead ClauseFault) → is_crowded 64 (bare tokens) ≡ false → Answers refusal r (clause_read tokens (clause_of (bare tokens))) → IfErr r (IsNoClause tokens)
+pub read_refused : (tokens : List Placed) (r : Result ClauseRead ClauseFault) → is_crowded 64 (bare tokens) ≡ false → Answers refusal r (clause_read tokens (clause_of (bare tokens))) → IfErr r (Tells refusal (IsNoClause tokens))
 read_refused tokens (Ok read) free gives = tt
 read_refused tokens (Err fault.OutOfMemory) free gives = tt
 read_refused tokens (Err (fault.Bad k)) free gives =
     let none = none_read tokens (clause_of (bare tokens)) k gives in
-    subst (λ x. IsNoClause tokens (fault.Bad x)) none.0 (none_is (bare tokens) free none.1)
+    subst (IsNoClause tokens) none.0 (none_is (bare tokens) free none.1)
 
 -- ---- the text
 

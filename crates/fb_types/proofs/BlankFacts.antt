@@ -6,7 +6,7 @@ use Rattle.std.proofs.lemmas.List.{drop_at, take_at, take-append-drop, length-re
 use Rattle.std.proofs.lemmas.List.Folds.{length-prefix_len}
 use Rattle.std.proofs.lemmas.List.Sums.{take_while-cons}
 use Rattle.lexing.proofs.Runs.{append_all}
-use Rattle.fb_types.specs.Field.{is_space_or_tab, blanks_before, trimmed, without_leading_blanks, without_trailing_blanks}
+use Rattle.fb_types.specs.Field.{is_blank, blanks_before, trimmed, without_leading_blanks, without_trailing_blanks}
 use Rattle.fb_types.specs.SchemaText.{IsPadded}
 use Rattle.fb_types.proofs.NameFacts.{both_left, both_right}
 
@@ -46,33 +46,33 @@ front_passes p (b ∷ bs) = rw (take_while-cons p b bs) (by (p b) refl (front_pa
     by true is others = rw is others
     by false is others = refl
 
-blanks_before_is : (front rest : List ℕ) → list_all is_space_or_tab front ≡ true → prefix_len is_space_or_tab rest ≡ 0 → blanks_before (front ++ rest) ≡ length front
-blanks_before_is front rest all stops = length-prefix_len is_space_or_tab (front ++ rest) ∙ prefix_past is_space_or_tab front rest all stops
+blanks_before_is : (front rest : List ℕ) → list_all is_blank front ≡ true → prefix_len is_blank rest ≡ 0 → blanks_before (front ++ rest) ≡ length front
+blanks_before_is front rest all stops = length-prefix_len is_blank (front ++ rest) ∙ prefix_past is_blank front rest all stops
 
-without_leading : (front rest : List ℕ) → list_all is_space_or_tab front ≡ true → prefix_len is_space_or_tab rest ≡ 0 → without_leading_blanks (front ++ rest) ≡ rest
+without_leading : (front rest : List ℕ) → list_all is_blank front ≡ true → prefix_len is_blank rest ≡ 0 → without_leading_blanks (front ++ rest) ≡ rest
 without_leading front rest all stops = drop_at front rest (blanks_before (front ++ rest)) (sym (blanks_before_is front rest all stops))
 
-without_trailing : (piece back : List ℕ) → list_all is_space_or_tab back ≡ true → list_all (λ b. not (is_space_or_tab b)) piece ≡ true → without_trailing_blanks (piece ++ back) ≡ piece
+without_trailing : (piece back : List ℕ) → list_all is_blank back ≡ true → list_all (λ b. not (is_blank b)) piece ≡ true → without_trailing_blanks (piece ++ back) ≡ piece
 without_trailing piece back all none =
     let behind : blanks_before (reverse back ++ reverse piece) ≡ length (reverse back) =
-    blanks_before_is (reverse back) (reverse piece) (all_reverse is_space_or_tab back all) (prefix_none is_space_or_tab (reverse piece) (all_reverse (λ b. not (is_space_or_tab b)) piece none)) in
+    blanks_before_is (reverse back) (reverse piece) (all_reverse is_blank back all) (prefix_none is_blank (reverse piece) (all_reverse (λ b. not (is_blank b)) piece none)) in
     let blanks : blanks_before (reverse (piece ++ back)) ≡ length back = ap blanks_before (reverse-append piece back) ∙ behind ∙ length-reverse back in
     take_at piece back (length (piece ++ back) - blanks_before (reverse (piece ++ back))) (omega (arith, blanks, length-append piece back))
 
 -- a piece without blanks is what stands between those round it
-pub trimmed_is : (bytes piece : List ℕ) → IsPadded bytes piece → list_all (λ b. not (is_space_or_tab b)) piece ≡ true → 1 ≤ length piece → trimmed bytes ≡ piece
+pub trimmed_is : (bytes piece : List ℕ) → IsPadded bytes piece → list_all (λ b. not (is_blank b)) piece ≡ true → 1 ≤ length piece → trimmed bytes ≡ piece
 trimmed_is bytes piece padded none some =
-    let stops = prefix_none_front is_space_or_tab piece padded.back none some in
+    let stops = prefix_none_front is_blank piece padded.back none some in
     let front = without_leading padded.front (piece ++ padded.back) padded.blank_front stops in
     ap trimmed padded.cut ∙ ap without_trailing_blanks front ∙ without_trailing piece padded.back padded.blank_back none
 
-back_of : (rest : List ℕ) → drop (length rest - blanks_before (reverse rest)) rest ≡ reverse (take_while is_space_or_tab (reverse rest))
+back_of : (rest : List ℕ) → drop (length rest - blanks_before (reverse rest)) rest ≡ reverse (take_while is_blank (reverse rest))
 back_of rest =
     let ys = reverse rest in
-    let n = prefix_len is_space_or_tab ys in
+    let n = prefix_len is_blank ys in
     let cut : reverse (drop n ys) ++ reverse (take n ys) ≡ rest = sym (reverse-append (take n ys) (drop n ys)) ∙ ap reverse (take-append-drop n ys) ∙ reverse-reverse rest in
     let long : length (reverse (drop n ys)) ≡ length rest - blanks_before ys =
-    omega (arith, length-reverse (drop n ys), length-drop n ys, length-reverse rest, length-prefix_len is_space_or_tab ys) in
+    omega (arith, length-reverse (drop n ys), length-drop n ys, length-reverse rest, length-prefix_len is_blank ys) in
     sym (ap (drop (length rest - blanks_before ys)) cut) ∙ drop_at (reverse (drop n ys)) (reverse (take n ys)) (length rest - blanks_before ys) long
 
 -- bytes are their trimmed piece with blanks round it
@@ -86,6 +86,6 @@ padded_trimmed bytes =
       front = take n bytes;
       back = drop m rest;
       cut = sym (ap (λ r. take n bytes ++ r) inner ∙ take-append-drop n bytes);
-      blank_front = rw (length-prefix_len is_space_or_tab bytes) (front_passes is_space_or_tab bytes);
-      blank_back = rw (back_of rest) (all_reverse is_space_or_tab (take_while is_space_or_tab (reverse rest)) (front_passes is_space_or_tab (reverse rest)));
+      blank_front = rw (length-prefix_len is_blank bytes) (front_passes is_blank bytes);
+      blank_back = rw (back_of rest) (all_reverse is_blank (take_while is_blank (reverse rest)) (front_passes is_blank (reverse rest)));
     }

@@ -14,7 +14,7 @@ use Rattle.fb_types.specs.declared.schema_text.MetaFault.TheVariants.{Bad, OutOf
 use Rattle.fb_types.specs.declared.schema_text.SchemaKind.{SchemaKind}
 use Rattle.fb_types.specs.declared.schema_text.SchemaKind.TheVariants.{Empty, TooMany, BadName, BadType, Repeated}
 use Rattle.fb_types.specs.AllOrFirst.{all_or_first}
-use Rattle.fb_types.specs.Field.{is_space_or_tab}
+use Rattle.fb_types.specs.Field.{is_blank}
 use Rattle.fb_types.specs.FirstFault.{FaultLies, HasFault, HasFaultAt, IsFirstFault}
 use Rattle.fb_types.specs.SchemaText.{IsFaultIn, SchemaFault, column_after, column_or_fault, columns_of, each_column, is_colon, items_of, name_in, read_schema, schema_or_fault, type_in}
 use Rattle.fb_types.proofs.AllOrFirstFacts.{all-stops}
@@ -106,7 +106,7 @@ fault_at items column kind is =
       fault = fault_so s.before c.item kind (name_in c.item) (type_in c.item) refl refl said;
     }
 
-lies : (text : List ℕ) (column : ℕ) (kind : SchemaKind) → list_all is_space_or_tab text ≡ false → length (items_of text) ≤ 255 → HasFaultAt (items_of text) column kind → FaultLies text column kind
+lies : (text : List ℕ) (column : ℕ) (kind : SchemaKind) → list_all is_blank text ≡ false → length (items_of text) ≤ 255 → HasFaultAt (items_of text) column kind → FaultLies text column kind
 lies text column Empty shown few h = absurd h.fault
 lies text column TooMany shown few h = absurd h.fault
 lies text column BadName shown few h = (shown, few, h)
@@ -130,12 +130,12 @@ not_found (Err (at, why)) column kind is = let same = same_fault at column why k
 
 pub first-fault : (text : List ℕ) (column : ℕ) (kind : SchemaKind) → read_schema text ≡ told column kind → FaultLies text column kind
 unfolding read_schema
-first-fault text column kind is = by (list_all is_space_or_tab text) (nat_lt 255 (length (items_of text))) refl refl is
+first-fault text column kind is = by (list_all is_blank text) (nat_lt 255 (length (items_of text))) refl refl is
   where
     F : ℕ → SchemaKind → Type 0
     F n k = FaultLies text n k
 
-    by : (blank many : Bool) → list_all is_space_or_tab text ≡ blank → nat_lt 255 (length (items_of text)) ≡ many → (if blank then told 0 Empty else (if many then told 256 TooMany else columns_of (items_of text))) ≡ told column kind → FaultLies text column kind
+    by : (blank many : Bool) → list_all is_blank text ≡ blank → nat_lt 255 (length (items_of text)) ≡ many → (if blank then told 0 Empty else (if many then told 256 TooMany else columns_of (items_of text))) ≡ told column kind → FaultLies text column kind
     by true many shown few here = let same = same_fault 0 column Empty kind here in rw (← same.0, ← same.1) (refl, shown)
     by false true shown few here = let same = same_fault 256 column TooMany kind here in rw (← same.0, ← same.1) (refl, shown, ltb-true 255 (length (items_of text)) few)
     by false false shown few here =

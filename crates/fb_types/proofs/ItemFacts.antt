@@ -14,7 +14,7 @@ use Rattle.fb_types.specs.declared.schemas.Column.{Column}
 use Rattle.fb_types.specs.declared.types.ColType.{ColType}
 use Rattle.fb_types.specs.declared.types.ColType.TheVariants.{Byte, UByte, Short, UShort, Int, UInt, Long, ULong, Category, Text}
 use Rattle.fb_types.specs.declared.types.TheConstants.{TYPES}
-use Rattle.fb_types.specs.Field.{is_space_or_tab, trimmed}
+use Rattle.fb_types.specs.Field.{is_blank, trimmed}
 use Rattle.fb_types.specs.Names.{IsColumnName, column_name, continues_name, is_column_name}
 use Rattle.fb_types.specs.SchemaText.{IsPadded, SpellsName, SpellsType, Writes, column_text, is_colon, is_comma, name_in, type_in, type_named}
 use Rattle.fb_types.specs.Types.{type_name}
@@ -24,7 +24,7 @@ use Rattle.fb_types.proofs.NameFacts.{both_left, column_name-named, both_right, 
 
 -- ---- bytes of names and types
 
-not_blank : (b : ℕ) → continues_name (to_ascii_lowercase b) ≡ true → not (is_space_or_tab b) ≡ true
+not_blank : (b : ℕ) → continues_name (to_ascii_lowercase b) ≡ true → not (is_blank b) ≡ true
 not_blank b h = grind (arith, nat_tests)
 
 not_colon : (b : ℕ) → continues_name (to_ascii_lowercase b) ≡ true → not (is_colon b) ≡ true
@@ -33,10 +33,10 @@ not_colon b h = grind (arith, nat_tests)
 not_comma : (b : ℕ) → continues_name (to_ascii_lowercase b) ≡ true → not (is_comma b) ≡ true
 not_comma b h = grind (arith, nat_tests)
 
-blank_no_colon : (b : ℕ) → is_space_or_tab b ≡ true → not (is_colon b) ≡ true
+blank_no_colon : (b : ℕ) → is_blank b ≡ true → not (is_colon b) ≡ true
 blank_no_colon b h = grind (arith, nat_tests)
 
-blank_no_comma : (b : ℕ) → is_space_or_tab b ≡ true → not (is_comma b) ≡ true
+blank_no_comma : (b : ℕ) → is_blank b ≡ true → not (is_comma b) ≡ true
 blank_no_comma b h = grind (arith, nat_tests)
 
 all_so : (p q : ℕ → Bool) → ((b : ℕ) → p b ≡ true → q b ≡ true) → (bytes : List ℕ) → list_all p bytes ≡ true → list_all q bytes ≡ true
@@ -87,10 +87,10 @@ no_type = refl
 
 -- ---- an item that is written is read
 
-padded_so : (p : ℕ → Bool) → ((b : ℕ) → is_space_or_tab b ≡ true → p b ≡ true) → (bytes piece : List ℕ) → IsPadded bytes piece → list_all p piece ≡ true → list_all p bytes ≡ true
+padded_so : (p : ℕ → Bool) → ((b : ℕ) → is_blank b ≡ true → p b ≡ true) → (bytes piece : List ℕ) → IsPadded bytes piece → list_all p piece ≡ true → list_all p bytes ≡ true
 padded_so p so bytes piece padded all =
-    let back = append_all p piece padded.back all (all_so is_space_or_tab p so padded.back padded.blank_back) in
-    rw padded.cut (append_all p padded.front (piece ++ padded.back) (all_so is_space_or_tab p so padded.front padded.blank_front) back)
+    let back = append_all p piece padded.back all (all_so is_blank p so padded.back padded.blank_back) in
+    rw padded.cut (append_all p padded.front (piece ++ padded.back) (all_so is_blank p so padded.front padded.blank_front) back)
 
 -- what `name_in` and `type_in` give of an item, which has no comma
 pub record Reads (item : List ℕ) (column : Column) : Type 0 where
@@ -121,14 +121,14 @@ spelled_name name kept lower named = rw (lower, named) refl
 pub name_found : (bytes kept : List ℕ) → SpellsName bytes kept → column_name (trimmed bytes) ≡ Some kept
 name_found bytes kept s =
     let word = name_word bytes kept s in
-    let solid = all_so (λ b. continues_name (to_ascii_lowercase b)) (λ b. not (is_space_or_tab b)) not_blank s.name word in
+    let solid = all_so (λ b. continues_name (to_ascii_lowercase b)) (λ b. not (is_blank b)) not_blank s.name word in
     let some : 1 ≤ length s.name = omega (arith, length-lower s.name, ap length s.lower, name_some kept s.named) in
     ap column_name (trimmed_is bytes s.name s.padded solid some) ∙ spelled_name s.name kept s.lower s.named
 
 pub type_found : (bytes : List ℕ) (ty : ColType) → SpellsType bytes ty → type_named (trimmed bytes) ≡ Some ty
 type_found bytes ty s =
     let word = type_word ty in
-    let solid = all_so (λ b. continues_name (to_ascii_lowercase b)) (λ b. not (is_space_or_tab b)) not_blank (type_name ty) word.0 in
+    let solid = all_so (λ b. continues_name (to_ascii_lowercase b)) (λ b. not (is_blank b)) not_blank (type_name ty) word.0 in
     ap type_named (trimmed_is bytes (type_name ty) s solid word.1) ∙ word.2
 
 pub item_read : (item : List ℕ) (column : Column) → Writes item column → Reads item column

@@ -12,7 +12,7 @@ use Rattle.fb_types.specs.declared.schema_text.MetaFault.{MetaFault}
 use Rattle.fb_types.specs.declared.schema_text.MetaFault.TheVariants.{Bad, OutOfMemory}
 use Rattle.fb_types.specs.declared.schema_text.SchemaKind.TheVariants.{Empty, TooMany}
 use Rattle.fb_types.specs.AllOrFirst.{all_or_first}
-use Rattle.fb_types.specs.Field.{is_space_or_tab}
+use Rattle.fb_types.specs.Field.{is_blank}
 use Rattle.fb_types.specs.Schemas.{IsSchema}
 use Rattle.fb_types.specs.SchemaText.{AreRead, IsFaultIn, SchemaFault, Spells, Writes, column_text, columns_of, each_column, is_comma, items_of, read_schema, schema_or_fault, schema_text}
 use Rattle.fb_types.specs.Names.{IsColumnName}
@@ -36,7 +36,7 @@ few_items text few = ltb-false 255 (length (items_of text)) few
 some_item : (text : List ℕ) → 1 ≤ length (items_of text)
 some_item text = omega (arith, length-slice_split is_comma text)
 
-pub reads-columns : (text : List ℕ) (items : List (List ℕ)) (told : Result (List Column) SchemaFault) → list_all is_space_or_tab text ≡ false → count_by is_comma text < 255 → items ≡ items_of text → columns_of items ≡ told → read_schema text ≡ told
+pub reads-columns : (text : List ℕ) (items : List (List ℕ)) (told : Result (List Column) SchemaFault) → list_all is_blank text ≡ false → count_by is_comma text < 255 → items ≡ items_of text → columns_of items ≡ told → read_schema text ≡ told
 unfolding read_schema
 reads-columns text items told shown few cut is =
     let within : nat_lt 255 (length (items_of text)) ≡ false = ltb-false-from (omega (arith, length-slice_split is_comma text)) in
@@ -45,11 +45,11 @@ reads-columns text items told shown few cut is =
     ltb-false-from : {n : ℕ} → n ≤ 255 → nat_lt 255 n ≡ false
     ltb-false-from h = search (arith)
 
-pub reads_blank : (text : List ℕ) → list_all is_space_or_tab text ≡ true → read_schema text ≡ Err (record { column = 0; kind = Empty })
+pub reads_blank : (text : List ℕ) → list_all is_blank text ≡ true → read_schema text ≡ Err (record { column = 0; kind = Empty })
 unfolding read_schema
 reads_blank text blank = rw blank refl
 
-pub reads_many : (text : List ℕ) → list_all is_space_or_tab text ≡ false → 255 ≤ count_by is_comma text → read_schema text ≡ Err (record { column = 256; kind = TooMany })
+pub reads_many : (text : List ℕ) → list_all is_blank text ≡ false → 255 ≤ count_by is_comma text → read_schema text ≡ Err (record { column = 256; kind = TooMany })
 unfolding read_schema
 reads_many text shown many =
     let beyond : nat_lt 255 (length (items_of text)) ≡ true = lt-ltb 255 (length (items_of text)) (omega (arith, length-slice_split is_comma text)) in
@@ -60,7 +60,7 @@ reads_many text shown many =
 read-each : (text : List ℕ) (columns : List Column) → read_schema text ≡ Ok columns → (length (items_of text) ≤ 255) × EachSo [] (items_of text) columns
 unfolding read_schema
 read-each text columns is =
-    let outer = if_ok (list_all is_space_or_tab text) _ _ columns is in
+    let outer = if_ok (list_all is_blank text) _ _ columns is in
     let inner = if_ok (nat_lt 255 (length (items_of text))) _ _ columns outer.1 in
     let told = schema_ok (all_or_first 1 (each_column [] (items_of text))) columns inner.1 in
     (few_items text inner.0, each-so [] (items_of text) columns (all-ok 1 (each_column [] (items_of text)) columns told))
@@ -98,14 +98,14 @@ and_false : (a b : Bool) → b ≡ false → (a && b) ≡ false
 and_false true b is = is
 and_false false b is = refl
 
-front_shown : (item rest : List ℕ) → list_all is_space_or_tab item ≡ false → list_all is_space_or_tab (item ++ rest) ≡ false
-front_shown item rest shown = rw (list_all-append is_space_or_tab item rest, shown) refl
+front_shown : (item rest : List ℕ) → list_all is_blank item ≡ false → list_all is_blank (item ++ rest) ≡ false
+front_shown item rest shown = rw (list_all-append is_blank item rest, shown) refl
 
-item_shown : (item : List ℕ) (column : Column) → Writes item column → list_all is_space_or_tab item ≡ false
+item_shown : (item : List ℕ) (column : Column) → Writes item column → list_all is_blank item ≡ false
 item_shown item column w =
-    rw (w.cut, list_all-append is_space_or_tab w.left (58 ∷ w.right)) (and_false (list_all is_space_or_tab w.left) false refl)
+    rw (w.cut, list_all-append is_blank w.left (58 ∷ w.right)) (and_false (list_all is_blank w.left) false refl)
 
-text_shown : (items : List (List ℕ)) (columns : List Column) → AllZip Writes items columns → 1 ≤ length items → list_all is_space_or_tab (join_with_byte 44 items) ≡ false
+text_shown : (items : List (List ℕ)) (columns : List Column) → AllZip Writes items columns → 1 ≤ length items → list_all is_blank (join_with_byte 44 items) ≡ false
 text_shown [] columns written some = absurd (omega arith)
 text_shown (item ∷ items) [] written some = absurd written
 text_shown (item ∷ []) (column ∷ columns) written some = item_shown item column written.0
@@ -119,7 +119,7 @@ spelled_read text columns schema spelled =
     let some : 1 ≤ length items = omega (arith, schema.some) in
     let free = schema-free columns schema in
     let again : items ≡ items_of text = sym (ap items_of spelled.joined ∙ items_again items columns spelled.each [] free some) in
-    let shown : list_all is_space_or_tab text ≡ false = ap (list_all is_space_or_tab) spelled.joined ∙ text_shown items columns spelled.each some in
+    let shown : list_all is_blank text ≡ false = ap (list_all is_blank) spelled.joined ∙ text_shown items columns spelled.each some in
     let few : count_by is_comma text < 255 = omega (arith, length-slice_split is_comma text, ap length again, schema.few) in
     let each : each_column [] items ≡ map Ok columns = so-each [] items columns (written-so [] items columns spelled.each free) in
     let all : columns_of items ≡ Ok columns = ap (λ answers. schema_or_fault (all_or_first 1 answers)) each ∙ ap schema_or_fault (all-found 1 columns) in

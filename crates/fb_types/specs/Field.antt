@@ -2,19 +2,20 @@
 use Rattle.std.specs.Prelude.{ℕ, Bool, ◌&&◌, ◌||◌, ◌==◌, true, false, ℤ, pos, int_le, Option, Some, None, List, [], ◌∷◌, length, take, drop, ◌-◌, ◌^◌, min, negsuc, reverse, if◌then◌else◌}
 use Rattle.std.specs.List.{take_while}
 use Rattle.std.specs.Option.{option_map}
-use Rattle.lexing.specs.Digits.{natural_of, signed}
+pub use Rattle.lexing.specs.Digits.{natural_of}
+use Rattle.lexing.specs.Digits.{signed}
 use Rattle.fb_types.specs.declared.types.ColType.{ColType}
 use Rattle.fb_types.specs.declared.fields.FieldAnswer.{FieldAnswer}
 use Rattle.fb_types.specs.declared.fields.FieldAnswer.TheVariants.{Null, Value, NotWhole, OutOfRange}
 use Rattle.fb_types.specs.Types.{ends_of}
 
--- a space or a tab
-abbrev pub is_space_or_tab : ℕ → Bool
-is_space_or_tab b = b == 32 || b == 9
+-- a space or a tab; between tokens line ends are blanks, too (`is_blank` of `lexing`)
+abbrev pub is_blank : ℕ → Bool
+is_blank b = b == 32 || b == 9
 
 -- how many blanks stand at the front
 abbrev pub blanks_before : List ℕ → ℕ
-blanks_before bytes = length (take_while is_space_or_tab bytes)
+blanks_before bytes = length (take_while is_blank bytes)
 
 abbrev pub without_leading_blanks : List ℕ → List ℕ
 without_leading_blanks bytes = drop (blanks_before bytes) bytes

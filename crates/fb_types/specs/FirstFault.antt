@@ -7,7 +7,7 @@ use Rattle.fb_types.specs.declared.schema_text.MetaFault.{MetaFault}
 use Rattle.fb_types.specs.declared.schema_text.MetaFault.TheVariants.{Bad, OutOfMemory}
 use Rattle.fb_types.specs.declared.schema_text.SchemaKind.{SchemaKind}
 use Rattle.fb_types.specs.declared.schema_text.SchemaKind.TheVariants.{Empty, TooMany, BadName, BadType, Repeated}
-use Rattle.fb_types.specs.Field.{is_space_or_tab}
+use Rattle.fb_types.specs.Field.{is_blank}
 use Rattle.fb_types.specs.SchemaText.{SpellsName, SpellsType, Writes, is_colon, items_of}
 
 -- An item after these columns has a fault: no name stands before its first colon; or a name does, but no type follows;
@@ -34,11 +34,11 @@ pub record HasFaultAt (items : List (List ℕ)) (column : ℕ) (kind : SchemaKin
 
 -- a blank text has its fault at column 0, one of too many items at column 256, and another one at an item
 abbrev pub FaultLies : List ℕ → ℕ → SchemaKind → Type 0
-FaultLies text column Empty = (column ≡ 0) × (list_all is_space_or_tab text ≡ true)
-FaultLies text column TooMany = (column ≡ 256) × (list_all is_space_or_tab text ≡ false) × (255 < length (items_of text))
-FaultLies text column BadName = (list_all is_space_or_tab text ≡ false) × (length (items_of text) ≤ 255) × HasFaultAt (items_of text) column BadName
-FaultLies text column BadType = (list_all is_space_or_tab text ≡ false) × (length (items_of text) ≤ 255) × HasFaultAt (items_of text) column BadType
-FaultLies text column Repeated = (list_all is_space_or_tab text ≡ false) × (length (items_of text) ≤ 255) × HasFaultAt (items_of text) column Repeated
+FaultLies text column Empty = (column ≡ 0) × (list_all is_blank text ≡ true)
+FaultLies text column TooMany = (column ≡ 256) × (list_all is_blank text ≡ false) × (255 < length (items_of text))
+FaultLies text column BadName = (list_all is_blank text ≡ false) × (length (items_of text) ≤ 255) × HasFaultAt (items_of text) column BadName
+FaultLies text column BadType = (list_all is_blank text ≡ false) × (length (items_of text) ≤ 255) × HasFaultAt (items_of text) column BadType
+FaultLies text column Repeated = (list_all is_blank text ≡ false) × (length (items_of text) ≤ 255) × HasFaultAt (items_of text) column Repeated
 
 -- the fault of `parse_schema` lies there, unless memory ran out
 abbrev pub IsFirstFault : MetaFault → List ℕ → Type 0

@@ -10,7 +10,7 @@ use Rattle.fb_types.specs.declared.schema_text.MetaFault.TheVariants.{Bad, OutOf
 use Rattle.fb_types.specs.declared.schema_text.SchemaKind.{SchemaKind}
 use Rattle.fb_types.specs.declared.schema_text.SchemaKind.TheVariants.{Empty, TooMany, BadName, BadType, Repeated}
 use Rattle.fb_types.specs.AllOrFirst.{all_or_first}
-use Rattle.fb_types.specs.Field.{is_space_or_tab, trimmed}
+use Rattle.fb_types.specs.Field.{is_blank, trimmed}
 use Rattle.fb_types.specs.Names.{IsColumnName, column_name}
 use Rattle.fb_types.specs.Types.{type_name}
 
@@ -34,8 +34,8 @@ pub record IsPadded (bytes piece : List ℕ) : Type 0 where
   pub front : List ℕ
   pub back : List ℕ
   pub cut : bytes ≡ front ++ (piece ++ back)
-  pub blank_front : list_all is_space_or_tab front ≡ true
-  pub blank_back : list_all is_space_or_tab back ≡ true
+  pub blank_front : list_all is_blank front ≡ true
+  pub blank_back : list_all is_blank back ≡ true
 
 -- the bytes are a column name in letters of either case, with blanks round it
 pub record SpellsName (bytes kept : List ℕ) : Type 0 where
@@ -118,7 +118,7 @@ columns_of items = schema_or_fault (all_or_first 1 (each_column [] items))
 -- the schema that a text spells, or its first fault
 unfoldable pub read_schema : List ℕ → Result (List Column) SchemaFault
 read_schema text =
-    if list_all is_space_or_tab text then Err (record { column = 0; kind = Empty })
+    if list_all is_blank text then Err (record { column = 0; kind = Empty })
     else (if nat_lt 255 (length (items_of text)) then Err (record { column = 256; kind = TooMany })
     else columns_of (items_of text))
 

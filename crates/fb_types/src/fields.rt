@@ -1,10 +1,9 @@
-ghost use Rattle.std.specs.Prelude.{◌≡◌, ◌≤◌, length, reverse, IsSome};
+ghost use Rattle.std.specs.Prelude.{◌≡◌, ◌^◌, ◌≤◌, length, min, reverse, IsSome};
 ghost use Rattle.std.specs.Option.{option_map};
-ghost use Rattle.fb_types.specs.Field.{blanks_before, capped, field_answer, is_space_or_tab as is_space_or_tab_byte, number_answer, trimmed as trimmed_bytes, whole_of};
+ghost use Rattle.fb_types.specs.Field.{blanks_before, capped, field_answer, is_blank as is_blank_byte, natural_of, number_answer, trimmed as trimmed_bytes, whole_of};
 ghost use Rattle.fb_types.specs.Types.{ends_of};
 
 use crate::types::ColType;
-use lexing::natural;
 
 /// What the field of a whole column says.
 #[derive(Clone, Copy, Debug, PartialEq, Eq)]
@@ -45,9 +44,6 @@ fn within(number: i128, ty: ColType) -> FieldAnswer
     }
 }
 
-/// Where numbers are cut, which lies beyond the ends of each type.
-const MOST: u128 = 1 << 64;
-
 /// The number of a text, cut to 2^64 in size.
 fn whole(text: &[u8]) -> Option<i128>
     ensures { result ≡ option_map capped (whole_of text.now) }
@@ -55,17 +51,25 @@ fn whole(text: &[u8]) -> Option<i128>
     match text {
         [b'-', digits @ ..] => {
             let n = natural(digits)?;
-            Some(-(n.min(MOST) as i128))
+            Some(-(n as i128))
         }
         [b'+', digits @ ..] => {
             let n = natural(digits)?;
-            Some(n.min(MOST) as i128)
+            Some(n as i128)
         }
         _ => {
             let n = natural(text)?;
-            Some(n.min(MOST) as i128)
+            Some(n as i128)
         }
     }
+}
+
+/// The number that one or more digits write, cut to 2^64; None for any other bytes.
+pub fn natural(digits: &[u8]) -> Option<u128>
+    ensures { result ≡ option_map (λ n. min n (2 ^ 64)) (natural_of digits.now) }
+{
+    let number = lexing::natural(digits)?;
+    Some(number.min(1 << 64))
 }
 
 pub(crate) fn trimmed(field: &[u8]) -> &[u8]
@@ -79,22 +83,18 @@ fn leading_blanks(bytes: &[u8]) -> usize
     ensures value { result ≡ blanks_before bytes.now }
     ensures within { result ≤ length bytes.now }
 {
-    bytes.iter().take_while(|b| is_space_or_tab(**b)).count()
+    bytes.iter().take_while(|b| is_blank(**b)).count()
 }
 
 fn trailing_blanks(bytes: &[u8]) -> usize
     ensures value { result ≡ blanks_before (reverse bytes.now) }
     ensures within { result ≤ length bytes.now }
 {
-    bytes
-        .iter()
-        .rev()
-        .take_while(|b| is_space_or_tab(**b))
-        .count()
+    bytes.iter().rev().take_while(|b| is_blank(**b)).count()
 }
 
-pub(crate) fn is_space_or_tab(byte: u8) -> bool
-    ensures { result ≡ is_space_or_tab_byte byte }
+pub(crate) fn is_blank(byte: u8) -> bool
+    ensures { result ≡ is_blank_byte byte }
 {
     byte == b' ' || byte == b'\t'
 }

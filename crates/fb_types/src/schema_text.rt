@@ -1,13 +1,13 @@
 ghost use Rattle.std.specs.Prelude.{◌≡◌, ◌<◌, [], ◌∷◌, ◌++◌, List, length, map, count_by, IfSome, IfOk, IfErr, Ok, OnOk};
 ghost use Rattle.std.specs.List.{after_first, before_first, list_all, list_any, position};
 ghost use Rattle.std.specs.Str.{bytes_eq};
-ghost use Rattle.fb_types.specs.Field.{is_space_or_tab as is_space_or_tab_byte};
+ghost use Rattle.fb_types.specs.Field.{is_blank as is_blank_byte};
 ghost use Rattle.fb_types.specs.FirstFault.{IsFirstFault};
 ghost use Rattle.fb_types.specs.SchemaText.{AreRead, IsFaultIn, IsFaultOf, Spells, column_or_fault, column_text, columns_of, is_colon, is_comma, items_of, name_in, read_schema, schema_text, separator_before, type_in};
 ghost use Rattle.fb_types.specs.Schemas.{IsSchema};
 ghost use Rattle.fb_types.specs.declared.schemas.Column.{Column};
 
-use crate::fields::{is_space_or_tab, trimmed};
+use crate::fields::{is_blank, trimmed};
 use crate::labels::Label;
 use crate::names::ColName;
 use crate::schemas::{Column, Schema};
@@ -88,9 +88,9 @@ fn read(alloc: Global, text: &[u8]) -> Result<Schema, MetaFault>
 }
 
 fn is_blank_text(text: &[u8]) -> bool
-    ensures { result ≡ list_all is_space_or_tab_byte text.now }
+    ensures { result ≡ list_all is_blank_byte text.now }
 {
-    text.iter().all(|b| is_space_or_tab(*b))
+    text.iter().all(|b| is_blank(*b))
 }
 
 fn commas(text: &[u8]) -> usize

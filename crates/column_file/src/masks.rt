@@ -7,6 +7,7 @@ ghost use Rattle.fb_outside.specs.Reads.{AddsOnly, AddsRead, IsWholeLook, whole_
 ghost use Rattle.wah_words.specs.Bytes.{spelling, vector_at};
 ghost use Rattle.wah_words.specs.Spelling.{words_of};
 ghost use Rattle.answers.specs.Answers.{Answers};
+ghost use Rattle.wah_words.specs.Limits.{most_bits};
 ghost use Rattle.column_file.specs.Opening.{StopsMask, StopsWriting, mask_in, to_its_end, told_by_files};
 
 use crate::fault::ColFault;
@@ -56,7 +57,7 @@ pub fn open_mask<S: Store>(
 
     // Without the definitions of the faults: a mask that is opened is spelled so, and what is spelled so is opened.
     ensures found { IfOk result (λ mask. IfSome (S.files store.old) (λ m. file_at m name.now ≡ Some (spelling mask))) }
-    ensures only { (bits : List Bool) → length bits ≡ rows → length bits ≤ 4194304 → told_at (S.files store.old) name.now ≡ Some (spelling bits)
+    ensures only { (bits : List Bool) → length bits ≡ rows → length bits ≤ most_bits → told_at (S.files store.old) name.now ≡ Some (spelling bits)
         → Answers told_by_files result (Ok bits) }
     ensures files { SameFiles (S.files store.old) (S.files store.new) }
     ensures reads { AddsOnly (IsWholeLook (S.files store.old) name.now) (S.reads store.old) (S.reads store.new) }

@@ -9,13 +9,14 @@ use Rattle.std.proofs.lemmas.Bool.{lt-ltb, le-ltb, ltb-true, ltb-false}
 use Rattle.std.proofs.lemmas.List.{length-take-le, take_all}
 use Rattle.std.proofs.lemmas.Slice.Eq.{bytes_eq-Decides}
 use Rattle.std.proofs.Math.Dec.{eqb-suc-zero}
-use Rattle.text_column.specs.Words.{IsWord, IsDictionary, code_in, word_in, with_word, first_seen}
+use Rattle.text_column.specs.Words.{IsWord, IsDictionary, code_in, word_in, with_word, first_seen, most_words}
 use Rattle.text_column.specs.DictionaryFile.{IsCutOff, word_bytes, words_bytes, dictionary_bytes, size_at, count_at, sized_at, word_at, taken, taken_as, with_rest, next_in, to_its_end, and_then, words_in, counted_in, dictionary_in}
 use Rattle.answers.specs.Answers.{Answers, Tells}
 use Rattle.text_column.specs.OpenedDictionary.{told_by_file}
 use Rattle.text_column.specs.declared.fault.DicFault.{DicFault}
 use Rattle.text_column.specs.declared.fault.DicFault.TheVariants.{Short, TooMany, Empty, Repeated, Trailing, Missing, Store, OutOfMemory}
-use Rattle.text_column.proofs.NumberLemmas.{AreBytes, AreBytes-take, AreBytes-drop, wide_16, wide_32, number_front, number_rest, number_spelled}
+use Rattle.column_file.proofs.NumberLemmas.{AreBytes, AreBytes-take, AreBytes-drop}
+use Rattle.text_column.proofs.NumberLemmas.{wide_16, wide_32, number_front, number_rest, number_spelled}
 use Rattle.text_column.proofs.WordLemmas.{was_there, other_way, bytes_same, no_words, dictionary_with}
 
 repeated_as : (words : List (List ℕ)) (word : List ℕ) → 0 < length word → list_any (bytes_eq word) words ≡ true
@@ -175,7 +176,7 @@ dictionary_again words h =
     ap (λ b. cond b (Err Short) (counted_in (count_at whole) (drop 4 whole))) (le-ltb (length whole) 4 four)
     ∙ ap (λ c. counted_in c (drop 4 whole)) (number_front w32 4 wide_32 n rest fits)
     ∙ ap (counted_in n) (number_rest w32 4 wide_32 n rest)
-    ∙ ap (λ b. cond b (Err TooMany) (words_in n ([], rest))) (le-ltb 4194304 n few)
+    ∙ ap (λ b. cond b (Err TooMany) (words_in n ([], rest))) (le-ltb most_words n few)
     ∙ words_read [] words h
 
 -- what is spelled as a dictionary is opened as that dictionary
@@ -280,13 +281,13 @@ choice_longer : (b : Bool) (words : List (List ℕ)) (word : List ℕ) → lengt
 choice_longer true words word = omega arith
 choice_longer false words word = omega (arith, length-append words (word ∷ []))
 
-seen_from : (done words : List (List ℕ)) → IsDictionary done → AllByRecursion IsWord words → length done + length words ≤ 4194304 → IsDictionary (fold with_word done words)
+seen_from : (done words : List (List ℕ)) → IsDictionary done → AllByRecursion IsWord words → length done + length words ≤ most_words → IsDictionary (fold with_word done words)
 seen_from done [] h each room = h
 seen_from done (w ∷ ws) h each room =
     let longer = choice_longer (list_any (bytes_eq w) done) done w in
     seen_from (with_word done w) ws (dictionary_with done w h each.0 (omega arith)) each.1 (omega arith)
 
-pub seen_dictionary : (words : List (List ℕ)) → AllByRecursion IsWord words → length words ≤ 4194304 → IsDictionary (first_seen words)
+pub seen_dictionary : (words : List (List ℕ)) → AllByRecursion IsWord words → length words ≤ most_words → IsDictionary (first_seen words)
 seen_dictionary words each few = seen_from [] words no_words each (omega arith)
 
 rest_as : (r : List ℕ) (t : Result (List (List ℕ)) DicFault) (more : List (List ℕ)) (rest : List ℕ) → with_rest r t ≡ Ok (more, rest) → t ≡ Ok more

@@ -6,12 +6,13 @@ use Rattle.fb_outside.specs.Files.{Files, file_at, told_at, bytes_at}
 use Rattle.fb_outside.specs.Reads.{Look, AddsOnly}
 use Rattle.fb_outside.proofs.ReadLemmas.{AddsOnly-trans, AddsOnly-weaken}
 use Rattle.answers.specs.Answers.{Answers}
+use Rattle.wah_words.specs.Limits.{most_bits}
 use Rattle.text_column.specs.OpenedTexts.{listed, unless_wrong, placed_in, starts_in, and_mask, with_starts, masked, text_in, parted_by, read_in, told_by_files}
 use Rattle.text_column.specs.Texts.{text_file, starts_of, starts_bytes, starts_at, first_wrong, texts_at, starts_between, size_between}
 use Rattle.wah_words.specs.Bytes.{spelling}
 use Rattle.column_file.specs.Opening.{mask_in}
 use Rattle.column_file.proofs.OpeningLemmas.{spelled_to_end}
-use Rattle.text_column.proofs.NumberLemmas.{AreBytes}
+use Rattle.column_file.proofs.NumberLemmas.{AreBytes}
 use Rattle.text_column.proofs.TextLemmas.{length-starts, length-starts_bytes, starts_small, starts_again, starts_rise, last_start, starts_spelled, parts_of, start_of_row, starts_order, front_fits, rows_parted}
 use Rattle.text_column.specs.declared.fault.TextFault.{TextFault}
 use Rattle.text_column.specs.declared.fault.TextFault.TheVariants.{Missing, StartsMissing, StartsLength, NotRising, LastStart, ShortRead, Mask, Store, OutOfMemory}
@@ -52,7 +53,7 @@ looks_both P Q old mid new h k =
 
 -- ---- what is written is opened
 
-pub opened_again : (texts : List (List ℕ)) (bits : List Bool) → length bits ≡ length texts → length bits ≤ 4194304 → length (text_file texts) < 2 ^ 64
+pub opened_again : (texts : List (List ℕ)) (bits : List Bool) → length bits ≡ length texts → length bits ≤ most_bits → length (text_file texts) < 2 ^ 64
     → text_in (length texts) (Some (text_file texts)) (Some (starts_bytes (starts_of texts))) (Some (spelling bits)) ≡ Ok (starts_of texts, bits)
 opened_again texts bits rows limit small =
     let starts = starts_of texts in
@@ -71,7 +72,7 @@ opened_again texts bits rows limit small =
 
 pub opens_texts : (files : Option Files) (opened : Result (List ℕ × List Bool) TextFault) (name starts_name mask_name : List ℕ) (rows : ℕ) (texts : List (List ℕ)) (bits : List Bool)
     → IfSome files (λ m. Answers told_by_files opened (text_in rows (file_at m name) (file_at m starts_name) (file_at m mask_name)))
-    → length texts ≡ rows → length bits ≡ rows → length bits ≤ 4194304 → length (text_file texts) < 2 ^ 64
+    → length texts ≡ rows → length bits ≡ rows → length bits ≤ most_bits → length (text_file texts) < 2 ^ 64
     → told_at files name ≡ Some (text_file texts) → told_at files starts_name ≡ Some (starts_bytes (starts_of texts)) → told_at files mask_name ≡ Some (spelling bits)
     → Answers told_by_files opened (Ok (starts_of texts, bits))
 opens_texts None opened name starts_name mask_name rows texts bits h size one_each limit small text starts mask = absurd (cc)

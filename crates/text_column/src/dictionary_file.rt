@@ -7,7 +7,7 @@ ghost use Rattle.fb_outside.specs.Reads.{AddsOnly, AddsRead, IsWholeLook, whole_
 ghost use Rattle.text_column.specs.DictionaryFile.{counted_in, dictionary_bytes, dictionary_in, next_in, word_at, words_bytes, words_in};
 ghost use Rattle.answers.specs.Answers.{Answers, Tells};
 ghost use Rattle.text_column.specs.OpenedDictionary.{StopsReadingWords, dictionary_of, told_by_file};
-ghost use Rattle.text_column.specs.Words.{IsDictionary};
+ghost use Rattle.text_column.specs.Words.{IsDictionary, most_words};
 
 use crate::dictionary::Dictionary;
 use crate::fault::DicFault;
@@ -51,7 +51,7 @@ impl Dictionary {
 
     /// Adds the word at the front of the bytes, and answers the bytes behind it.
     fn add_from<'a>(&mut self, alloc: Global, bytes: &'a [u8]) -> Result<&'a [u8], DicFault>
-        requires { length self.old < 4194304 }
+        requires { length self.old < most_words }
         ensures ok { IfOk result (λ rest. next_in self.old bytes.now ≡ Ok (self.new, rest.now)) }
         ensures err { IfErr result (Tells told_by_file (λ told. next_in self.old bytes.now ≡ Err told)) }
         ensures stop { IfErr result StopsReadingWords }
@@ -92,7 +92,7 @@ fn counted_words(alloc: Global, bytes: &[u8]) -> Result<Dictionary, DicFault>
 
 /// The dictionary of so many words, whose bytes these are to their end.
 fn words_of(alloc: Global, count: u32, bytes: &[u8]) -> Result<Dictionary, DicFault>
-    requires { count ≤ 4194304 }
+    requires { count ≤ most_words }
     ensures exact { Answers told_by_file result (words_in count ([], bytes.now)) }
     ensures stop { IfErr result StopsReadingWords }
 {

@@ -7,6 +7,7 @@ ghost use Rattle.fb_outside.specs.Reads.{AddsOnly, AddsRead, AddsReads, IsWholeL
 ghost use Rattle.wah_words.specs.Bytes.{spelling};
 ghost use Rattle.column_file.specs.Opening.{mask_in};
 ghost use Rattle.answers.specs.Answers.{Answers};
+ghost use Rattle.wah_words.specs.Limits.{most_bits};
 ghost use Rattle.text_column.specs.OpenedTexts.{StopsMasked, StopsOpeningText, StopsStarts, and_mask, listed, masked, opened_text, starts_in, text_in, told_by_files};
 ghost use Rattle.text_column.specs.Texts.{first_below, first_wrong, starts_at, starts_bytes, starts_of, text_file};
 
@@ -35,7 +36,7 @@ pub fn open_text<S: Store>(
         (text_in rows (file_at m name.now) (file_at m starts_name.now) (file_at m mask_name.now))) }
 
     // What is written is opened.
-    ensures only { (texts : List (List ℕ)) (bits : List Bool) → length texts ≡ rows → length bits ≡ rows → length bits ≤ 4194304
+    ensures only { (texts : List (List ℕ)) (bits : List Bool) → length texts ≡ rows → length bits ≡ rows → length bits ≤ most_bits
         → length (text_file texts) < 2 ^ 64 → told_at (S.files store.old) name.now ≡ Some (text_file texts)
         → told_at (S.files store.old) starts_name.now ≡ Some (starts_bytes (starts_of texts))
         → told_at (S.files store.old) mask_name.now ≡ Some (spelling bits) → Answers told_by_files (opened_text result) (Ok (starts_of texts, bits)) }

@@ -1,4 +1,3 @@
-pub mod Numbers
 pub mod Elements
 pub mod Spelled
 pub mod Reread

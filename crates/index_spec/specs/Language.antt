@@ -98,11 +98,10 @@ answer_by (Some f) = meaning f
 unfoldable pub spec_of : List ℕ → Result Spec SpecKind
 spec_of text = if nat_lt 131072 (length text) then Err kind.TooLong else answer_by (option_and_then form_of (tokens_of text))
 
--- a call's answer is this one, unless memory ran out
-abbrev pub Gives : Result Spec SpecFault → Result Spec SpecKind → Type 0
-Gives (Ok s) answer = answer ≡ Ok s
-Gives (Err fault.OutOfMemory) answer = Unit {0}
-Gives (Err (fault.Bad kind)) answer = answer ≡ Err kind
+-- the refusal that a fault tells of a text; want of memory tells none
+abbrev pub refusal : SpecFault → Option SpecKind
+refusal (fault.Bad kind) = Some kind
+refusal fault.OutOfMemory = None
 
 -- a refusal that a text can have
 abbrev pub IsToldByText : SpecFault → Type 0

@@ -7,7 +7,8 @@ use Rattle.std.proofs.Math.Seq.{take-append_seam, drop-append_seam}
 use Rattle.std.proofs.lemmas.Bool.{le-ltb, ltb-false, eqb-true}
 use Rattle.std.proofs.lemmas.List.{length-take-le, take_all, drop-drop}
 use Rattle.text_column.specs.Texts.{text_file, starts_from, starts_of, starts_bytes, starts_at, first_below, first_wrong, texts_at, AreWithin, starts_between, size_between}
-use Rattle.text_column.proofs.NumberLemmas.{AreBytes, AreBytes-drop, wide_64, number_front, number_rest, number_spelled}
+use Rattle.column_file.proofs.NumberLemmas.{AreBytes, AreBytes-drop}
+use Rattle.text_column.proofs.NumberLemmas.{wide_64, number_front, number_rest, number_spelled}
 
 -- ---- the loop that writes
 

@@ -5,7 +5,7 @@ use Rattle.std.specs.Str.{bytes_eq}
 use Rattle.indexmap.specs.IndexSet.{insert_key}
 use Rattle.std.proofs.lemmas.Bool.{lt-ltb, le-ltb}
 use Rattle.std.proofs.lemmas.Slice.Eq.{bytes_eq-Decides}
-use Rattle.text_column.specs.Words.{IsWord, IsDictionary, code_in, with_word}
+use Rattle.text_column.specs.Words.{IsWord, IsDictionary, code_in, with_word, most_words}
 
 -- ---- keys as words
 
@@ -186,7 +186,7 @@ distinct-append (w ∷ ws) word h new = (
 )
 
 -- a new word behind those of a dictionary
-pub dictionary-append : (words : List (List ℕ)) (word : List ℕ) → IsDictionary words → IsWord word → length words < 4194304
+pub dictionary-append : (words : List (List ℕ)) (word : List ℕ) → IsDictionary words → IsWord word → length words < most_words
     → list_any (bytes_eq word) words ≡ false → IsDictionary (words ++ word ∷ [])
 dictionary-append words word h is room new = record {
   each = each-append words word h.each is;
@@ -194,7 +194,7 @@ dictionary-append words word h is room new = record {
   few = omega (arith, length-append words (word ∷ []), room);
 }
 
-pub dictionary_with : (words : List (List ℕ)) (word : List ℕ) → IsDictionary words → IsWord word → length words < 4194304 → IsDictionary (with_word words word)
+pub dictionary_with : (words : List (List ℕ)) (word : List ℕ) → IsDictionary words → IsWord word → length words < most_words → IsDictionary (with_word words word)
 dictionary_with words word h is room =
     elim (list_any (bytes_eq word) words) as (λ b. list_any (bytes_eq word) words ≡ b → IsDictionary (cond b words (words ++ word ∷ []))) [
       | true ↦ λ e. h

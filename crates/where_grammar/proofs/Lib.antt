@@ -1,4 +1,3 @@
-pub mod Numbers
 pub mod Boundaries
 pub mod Cuts
 pub mod Quotes

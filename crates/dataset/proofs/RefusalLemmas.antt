@@ -153,7 +153,8 @@ same_within (y ∷ ys) (suc col) x h = let rest = same_within ys col x h in omeg
 pub refused_column : (dataset : Dataset) (schema : List Column) (per_part rows column : ℕ) → first_difference dataset.schema schema ≡ Some column
     → refusal (catalog_in dataset) schema per_part rows ≡ Some (SchemaDiffers column)
 unfolding refusal
-refused_column dataset schema per_part rows column h = ap (λ o. refusal_by o _) h
+refused_column dataset schema per_part rows column h =
+    ap (λ o. refusal_by o (too_many (length (map (λ (part : PartMeta). part.number) dataset.parts) + part_count per_part rows) (dataset.next + part_count per_part rows))) h
 
 pub refused_by : (dataset : Dataset) (schema : List Column) (per_part rows parts next : ℕ) → first_difference dataset.schema schema ≡ None
     → parts ≡ length dataset.parts + part_count per_part rows → next ≡ dataset.next + part_count per_part rows

@@ -17,6 +17,7 @@ const MOST_PARTS: u64 = 1024;
 /// Part numbers are below this.
 const MOST_NUMBERS: u64 = 4096;
 
+#[tactic(auto, using(crate::proofs::RefusalLemmas::refused_by, crate::proofs::RefusalLemmas::refused_column, crate::proofs::RefusalLemmas::no_difference))]
 /// How many parts the records make, or why they aren't loaded.
 pub(crate) fn accepted(
     dataset: &Dataset,

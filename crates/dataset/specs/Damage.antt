@@ -2,6 +2,8 @@
 use Rattle.std.specs.Prelude.{◌≡◌, ◌≢◌, ⊤, ℕ, List, Option, Some, None, Err, take, slice_get}
 use Rattle.std.specs.List.{All}
 use Rattle.fb_outside.specs.Files.{Files, file_at}
+use Rattle.fb_outside.specs.declared.outside.Trouble.{Trouble}
+use Rattle.fb_outside.specs.declared.outside.Trouble.TheVariants as trouble
 use Rattle.fb_types.specs.declared.schemas.Column.{Column}
 use Rattle.fb_types.specs.Types.{width_of}
 use Rattle.column_file.specs.Opening.{column_in}
@@ -35,6 +37,18 @@ damage file kind = record { file = file; kind = kind; want = 0; have = 0 }
 abbrev pub part_with : Catalog → ℕ → ℕ → PartMeta
 part_with catalog number rows = record { number = number; rows = rows; schema = catalog.schema }
 
+-- the bytes are the text of this part, which has that number and the catalog's columns
+pub record IsPartText (catalog : Catalog) (number : ℕ) (part : PartMeta) (bytes : List ℕ) : Type 0 where
+  pub valid : IsPart part
+  pub numbered : part.number ≡ number
+  pub columns : part.schema ≡ catalog.schema
+  pub text : bytes ≡ part_text part
+
+-- the bytes are the text of no such part
+abbrev pub IsNoText : Catalog → ℕ → List ℕ → Type 0
+IsNoText catalog number bytes =
+    (rows : ℕ) → IsPart (part_with catalog number rows) → part_text (part_with catalog number rows) ≢ bytes
+
 -- some text of a part of this number stands there
 abbrev pub IsGood : Files → List ℕ → Catalog → ℕ → Type 0
 IsGood files dir catalog number = (rows : ℕ) × HasPart files dir (part_with catalog number rows)
@@ -56,8 +70,7 @@ pub data IsFirstDamaged (files : Files) (dir : List ℕ) (found : Damage) : Type
       → found ≡ damage (part_name dir number) Missing → IsFirstDamaged files dir found
   NoPartText : (catalog : Catalog) (number : ℕ) (bytes : List ℕ) → HasCatalog files dir catalog
       → IsNext files dir catalog number → file_at files (part_name dir number) ≡ Some bytes
-      → ((rows : ℕ) → IsPart (part_with catalog number rows) → part_text (part_with catalog number rows) ≢ bytes)
-      → found ≡ damage (part_name dir number) Text → IsFirstDamaged files dir found
+      → IsNoText catalog number bytes → found ≡ damage (part_name dir number) Text → IsFirstDamaged files dir found
 
 -- why no dataset was opened, over files that are told
 abbrev pub Unopened : Files → List ℕ → OpenFault → Type 0
@@ -66,6 +79,15 @@ Unopened files dir (Damaged file kind want have) =
     IsFirstDamaged files dir (record { file = file; kind = kind; want = want; have = have })
 Unopened files dir Store = ⊤
 Unopened files dir OutOfMemory = ⊤
+
+-- what a trouble with the store is answered by
+abbrev pub fault_of_trouble : Trouble → OpenFault
+fault_of_trouble trouble.Failed = Store
+fault_of_trouble trouble.OutOfMemory = OutOfMemory
+
+-- such a damage as an answer
+abbrev pub damaged : List ℕ → DamageKind → OpenFault
+damaged file kind = Damaged file kind 0 0
 
 -- a damaged file that opening names is the catalog or a part's text
 abbrev pub NamesText : List ℕ → OpenFault → Type 0

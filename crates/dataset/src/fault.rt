@@ -1,4 +1,10 @@
-use fb_outside::FileName;
+ghost use Rattle.std.specs.Prelude.{◌≡◌};
+ghost use Rattle.dataset.specs.Damage.{fault_of_trouble};
+ghost use Rattle.dataset.specs.declared.fault.OpenFault.TheVariants as open_;
+ghost use Rattle.dataset.specs.declared.fault.PartFault.TheVariants as part_;
+
+use fb_outside::{FileName, Trouble};
+use std::alloc::AllocError;
 use thiserror::Error;
 
 /// What is wrong with a file of a dataset.
@@ -33,6 +39,51 @@ pub enum OpenFault {
     Store,
     #[error("out of memory")]
     OutOfMemory,
+}
+
+impl From<AllocError> for OpenFault {
+    ghost from_gives = { λ _ fault. fault ≡ open_.OutOfMemory };
+
+    fn from(_error: AllocError) -> OpenFault {
+        OpenFault::OutOfMemory
+    }
+}
+
+impl From<Trouble> for OpenFault {
+    ghost from_gives = { λ trouble fault. fault ≡ fault_of_trouble trouble };
+
+    fn from(trouble: Trouble) -> OpenFault {
+        match trouble {
+            Trouble::Failed => OpenFault::Store,
+            Trouble::OutOfMemory => OpenFault::OutOfMemory,
+        }
+    }
+}
+
+/// Why a part's column isn't opened.
+#[derive(Debug, Drop, Error)]
+pub enum PartFault {
+    /// A file isn't what it has to be. Where the kind has two numbers, `want` had to be there and `have` is.
+    #[error("a file is damaged: {kind:?}")]
+    Damaged {
+        file: FileName,
+        kind: DamageKind,
+        want: u64,
+        have: u64,
+    },
+    /// A call on the store failed. It is answered as soon as that is so.
+    #[error("the store failed")]
+    Store,
+    #[error("out of memory")]
+    OutOfMemory,
+}
+
+impl From<AllocError> for PartFault {
+    ghost from_gives = { λ _ fault. fault ≡ part_.OutOfMemory };
+
+    fn from(_error: AllocError) -> PartFault {
+        PartFault::OutOfMemory
+    }
 }
 
 /// Why rows aren't appended to a dataset: the first that holds.

@@ -4,6 +4,7 @@ use Rattle.std.specs.List.{All, flat_map}
 use Rattle.fb_outside.specs.Files.{Files, told_at}
 use Rattle.fb_types.specs.declared.cells.Cell.{Cell}
 use Rattle.fb_types.specs.declared.schemas.Column.{Column}
+use Rattle.fb_types.specs.Cells.{CellFits}
 use Rattle.column_file.specs.declared.column.ColumnRef.{ColumnRef}
 use Rattle.column_file.specs.Values.{ValueFits, values_bytes}
 use Rattle.where_grammar.specs.declared.clause.Op.TheVariants.{Less}
@@ -33,13 +34,19 @@ pub record HasValues (files : Option Files) (column : ColumnRef) (values : List 
 pub record HasCells (files : Option Files) (column : ColumnRef) (cells : List Cell) : Type 0 where
   pub numbers : HasValues files column (map number_of cells)
   pub mask : column.mask ≡ map is_present cells
+  pub fit : All (λ cell. CellFits cell column.ty) cells
 
 -- ---- over those of the parts of a dataset
 
 abbrev pub cells_in_parts : ℕ → List Partition → List Cell
 cells_in_parts col parts = flat_map (λ part. column_cells col part.records) parts
 
+-- the files of a column in a part have these cells
+pub record HasColumn (files : Files) (dir : List ℕ) (number : ℕ) (column : Column) (cells : List Cell) : Type 0 where
+  pub numbers : HasNumbers files dir number column cells
+  pub fit : All (λ cell. CellFits cell column.ty) cells
+
 -- the dataset's parts are these, and the files of its column have their cells
 pub record HasParts (files : Files) (dataset : Dataset) (column : Column) (col : ℕ) (parts : List Partition) : Type 0 where
   pub are : dataset.parts ≡ map (part_data dataset.schema) parts
-  pub numbers : All (λ part. HasNumbers files dataset.dir part.number column (column_cells col part.records)) parts
+  pub numbers : All (λ part. HasColumn files dataset.dir part.number column (column_cells col part.records)) parts

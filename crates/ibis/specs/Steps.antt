@@ -3,6 +3,7 @@ use Rattle.std.specs.Prelude.{◌≡◌, ⊤, ℕ, List, Option, Some, None, IfS
 use Rattle.std.specs.Borrow.{Bor}
 use Rattle.fb_outside.specs.Files.{Files}
 use Rattle.fb_types.specs.declared.schemas.Column.{Column}
+use Rattle.fb_types.specs.Schemas.{place_of}
 use Rattle.fb_types.specs.Types.{ends_of}
 use Rattle.where_grammar.specs.declared.clause.ClauseFault.{ClauseFault}
 use Rattle.where_grammar.specs.declared.clause.ClauseFault.TheVariants as text
@@ -51,6 +52,7 @@ Finds dir files (Err OutOfMemory) = ⊤
 -- the schema has this column, of whole numbers, under the name
 pub record IsAsked (schema : List Column) (below : Below) (column : Column) : Type 0 where
   pub place : ℕ
+  pub first : place_of schema below.name ≡ Some place
   pub in_schema : slice_get schema place ≡ Some column
   pub named : column.name ≡ below.name
   pub whole : IsSome (ends_of column.ty)

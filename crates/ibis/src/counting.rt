@@ -1,6 +1,6 @@
 //! How many records there are that a clause holds on.
 
-ghost use Rattle.std.specs.Prelude.{◌≡◌, ◌≤◌, ◌*◌, ℕ, List, Some, IfErr, IfOk, IsErrOf, IsSome, IsUtf8, is_ok, length, map, slice_get, true};
+ghost use Rattle.std.specs.Prelude.{◌≡◌, ◌<◌, ◌≤◌, ◌*◌, ℕ, List, Some, IfErr, IfOk, IsErrOf, IsSome, IsUtf8, is_ok, length, map, slice_get, true};
 ghost use Rattle.fb_outside.specs.Causes.{HasCause};
 ghost use Rattle.fb_outside.specs.Files.{Files, SameFiles};
 ghost use Rattle.fb_outside.specs.Names.{IsPath};
@@ -8,11 +8,10 @@ ghost use Rattle.fb_types.specs.declared.cells.Cell.{Cell};
 ghost use Rattle.fb_types.specs.Types.{ends_of};
 ghost use Rattle.world.specs.PartFiles.{part_data};
 ghost use Rattle.world.specs.World.{Partition};
-ghost use Rattle.dataset.specs.InWorld.{HasNumbers};
 ghost use Rattle.dataset.specs.Opened.{IsDataset};
 ghost use Rattle.ibis.specs.Count.{CountGives, CountsRecords};
 ghost use Rattle.ibis.specs.Query.{read_query};
-ghost use Rattle.ibis.specs.Rows.{HasParts, cells_in_parts, passing};
+ghost use Rattle.ibis.specs.Rows.{HasColumn, HasParts, cells_in_parts, passing};
 ghost use Rattle.ibis.specs.Steps.{StopsIn};
 
 use crate::opening::{damaged, opened, stop_of_part};
@@ -100,7 +99,9 @@ fn count_part<S: Store, L: Ledger>(
     limit: i128,
     steps: &mut Steps<L>,
 ) -> Result<u64, Stop>
-    requires valid { IsDataset dataset.now }
+    requires path { IsPath dataset.now.dir }
+    requires number { part.now.number < 4096 }
+    requires rows { part.now.rows ≤ 4194304 }
     requires listed { (place : ℕ) × (slice_get dataset.now.parts place ≡ Some part.now) }
     requires in_schema { (col : ℕ) × (slice_get dataset.now.schema col ≡ Some column.now) }
     requires whole { IsSome (ends_of column.now.ty) }
@@ -109,7 +110,7 @@ fn count_part<S: Store, L: Ledger>(
     ensures few { IfOk result (λ hits. hits ≤ part.now.rows) }
     ensures stop { IfErr result (StopsIn (S.files store.old) dataset.now column.now.name) }
     ensures counts { (m : Files) (cells : List Cell) → S.files store.old ≡ Some m → length cells ≡ part.now.rows
-        → HasNumbers m dataset.now.dir part.now.number column.now cells → IfOk result (λ hits. hits ≡ passing limit cells) }
+        → HasColumn m dataset.now.dir part.now.number column.now cells → IfOk result (λ hits. hits ≡ passing limit cells) }
 {
     let found = match open_part_column(alloc, store, dataset, part, column) {
         Ok(found) => found,

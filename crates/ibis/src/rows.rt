@@ -4,9 +4,8 @@ ghost use Rattle.std.specs.Prelude.{◌≡◌, ◌+◌, ◌-◌, ◌*◌, ◌≤
 ghost use Rattle.fb_outside.specs.Causes.{HasCause};
 ghost use Rattle.fb_outside.specs.Files.{SameFiles, told_at};
 ghost use Rattle.fb_types.specs.declared.cells.Cell.{Cell};
-ghost use Rattle.fb_types.specs.Types.{width_of};
+ghost use Rattle.fb_types.specs.Types.{ends_of, width_of};
 ghost use Rattle.column_file.specs.Values.{width_in};
-ghost use Rattle.wah_iter.specs.Rows.{rows_in, runs_of};
 ghost use Rattle.ibis.specs.Rows.{HasCells, HasValues, passing, smaller};
 
 use column_file::{ColFault, ColumnRef, MAX_ROWS_READ, read_rows};
@@ -34,8 +33,9 @@ pub(crate) fn count_rows<S: Store, L: Ledger>(
     limit: i128,
     steps: &mut Steps<L>,
 ) -> Result<u64, RowsFault>
-    requires width { IsSome (width_of column.now.ty) }
+    requires whole { IsSome (ends_of column.now.ty) }
     requires mask { length column.now.mask ≡ column.now.rows }
+    requires few { column.now.rows ≤ 4194304 }
     ensures cause { HasCause (S.faults store.old) (S.faults store.new) (IsErrOf result RowsFault.Store) }
     ensures files { SameFiles (S.files store.old) (S.files store.new) }
     ensures few { IfOk result (λ hits. hits ≤ column.now.rows) }

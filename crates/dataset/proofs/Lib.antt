@@ -1,0 +1,9 @@
+pub mod OpeningLemmas
+pub mod PartsLemmas
+pub mod ListLemmas
+pub mod SameLemmas
+pub mod WorldLemmas
+pub mod FitLemmas
+pub mod ColumnLemmas
+pub mod LookLemmas
+pub mod LoadLemmas

@@ -12,23 +12,15 @@ use Rattle.column_file.specs.Opening.{column_in}
 use Rattle.column_file.specs.Values.{ValueFits, values_bytes, width_in}
 use Rattle.part_meta.specs.FileNames.{mask_name, values_name}
 use Rattle.world.specs.World.{Content, Partition, World, content_at}
-use Rattle.world.specs.PartFiles.{code_of, dictionary_of, is_present, number_of, part_data}
+use Rattle.world.specs.PartFiles.{code_of, dictionary_of, is_present, number_of}
 use Rattle.dataset.specs.declared.content.Dataset.{Dataset}
-
--- the dataset of this content, at a path
-abbrev pub dataset_of : List ℕ → Content → Dataset
-dataset_of dir content = record {
-  dir = dir;
-  schema = content.schema;
-  next = content.next;
-  parts = map (part_data content.schema) content.parts;
-}
+use Rattle.dataset.specs.Found.{dataset_in}
 
 -- the world's dataset at the path
 pub record IsDatasetOf (world : World) (dir : List ℕ) (dataset : Dataset) : Type 0 where
   pub content : Content
   pub there : content_at world dir ≡ Some content
-  pub is : dataset ≡ dataset_of dir content
+  pub is : dataset ≡ dataset_in dir content
 
 -- a column in a part of the world's dataset at the path
 pub record IsColumnOf (world : World) (dir : List ℕ) (part : Partition) (col : ℕ) (column : Column) : Type 0 where

@@ -11,10 +11,10 @@ ghost use Rattle.dataset.specs.PartColumns.{IfDamaged, IsOfColumn, IsOpened, Ope
 
 use crate::content::Dataset;
 use crate::fault::{DamageKind, PartFault};
-use column_file::{ColFault, ColumnRef};
+use column_file::{ColFault, ColumnRef, open_column};
 use fb_outside::{FileName, Store};
 use fb_types::Column;
-use part_meta::PartMeta;
+use part_meta::{FileKind, PartMeta, file_of};
 use std::alloc::Global;
 
 /// Opens a column of a width in a part of the dataset: asks how long its values file is, and reads its mask file.
@@ -42,7 +42,24 @@ pub fn open_part_column<S: Store>(
     ensures once { OnOk result (IfSome (S.files store.old)
         (λ m. AddsRead (Some m) (S.reads store.old) (S.reads store.new) (whole_look m (mask_file dataset.now part.now column.now)))) }
 {
-    Err(PartFault::OutOfMemory)
+    let values = file_of(
+        alloc,
+        &dataset.dir,
+        part.number,
+        Some(&column.name),
+        FileKind::Values,
+    )?;
+    let mask = file_of(
+        alloc,
+        &dataset.dir,
+        part.number,
+        Some(&column.name),
+        FileKind::Mask,
+    )?;
+    match open_column(alloc, store, &values, &mask, column.ty, part.rows) {
+        Ok(column) => Ok(column),
+        Err(fault) => Err(column_damage(values, mask, fault)),
+    }
 }
 
 /// What a fault of the column with these files says of them.

@@ -1,6 +1,2 @@
-pub mod Reply
-pub mod Loading
-pub mod Effects
-pub mod Causes
-pub mod Order
-pub mod Counting
+pub mod Session
+pub mod Run

@@ -1,0 +1,5 @@
+pub mod MapLemmas
+pub mod PieceLemmas
+pub mod ContentLemmas
+pub mod FileLemmas
+pub mod KeptLemmas

@@ -1,0 +1,5 @@
+pub mod Command
+pub mod Reply
+pub mod Effects
+pub mod Causes
+pub mod Order

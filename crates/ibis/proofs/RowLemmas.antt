@@ -24,6 +24,22 @@ smaller-append limit a b = sum_by-append (λ number. cond (compares Less number 
 pub passing-append : (limit : ℤ) (a b : List Cell) → passing limit (a ++ b) ≡ passing limit a + passing limit b
 passing-append limit a b = sum_by-append (λ cell. cond (number_passes (λ number. compares Less number limit) cell) 1 0) a b
 
+-- the same of one more at the front
+smaller_one : (limit number : ℤ) → smaller limit (number ∷ []) ≡ cond (compares Less number limit) 1 0
+smaller_one limit number = omega arith
+
+smaller-cons : (limit number : ℤ) (ns : List ℤ) → smaller limit (number ∷ ns) ≡ cond (compares Less number limit) 1 0 + smaller limit ns
+smaller-cons limit number ns = smaller-append limit (number ∷ []) ns ∙ ap (λ k. k + smaller limit ns) (smaller_one limit number)
+
+abbrev pub cell_one : ℤ → Cell → ℕ
+cell_one limit cell = cond (number_passes (λ number. compares Less number limit) cell) 1 0
+
+passing_one : (limit : ℤ) (cell : Cell) → passing limit (cell ∷ []) ≡ cell_one limit cell
+passing_one limit cell = omega arith
+
+pub passing-cons : (limit : ℤ) (cell : Cell) (cells : List Cell) → passing limit (cell ∷ cells) ≡ cell_one limit cell + passing limit cells
+passing-cons limit cell cells = passing-append limit (cell ∷ []) cells ∙ ap (λ k. k + passing limit cells) (passing_one limit cell)
+
 drop_nil : {X : Type 0} (k : ℕ) → drop {A = X} k [] ≡ []
 drop_nil zero = refl
 drop_nil (suc k) = refl
@@ -110,9 +126,6 @@ runs_few v = few_from 0 v
 abbrev one_smaller : ℤ → ℤ → ℕ
 one_smaller limit number = cond (compares Less number limit) 1 0
 
-single : (limit number : ℤ) → smaller limit (number ∷ []) ≡ one_smaller limit number
-single limit number = omega arith
-
 taken_first : (place last : ℕ) (number : ℤ) (values rest : List ℤ) → place < last → drop place values ≡ number ∷ rest
     → take (last - place) (drop place values) ≡ number ∷ take (last - (place + 1)) rest
 taken_first place last number values rest less e =
@@ -130,14 +143,14 @@ in_runs_by limit values rest number end place r rs true e now later h =
     let others : take (r.1 - (place + 1)) rest ≡ take (r.1 - r.0) (drop r.0 values) =
     ap (take (r.1 - (place + 1))) (sym later) ∙ ap (λ k. take (r.1 - k) (drop k values)) at in
     let count : smaller limit (take (r.1 - place) (drop place values)) ≡ one_smaller limit number + smaller limit (take (r.1 - r.0) (drop r.0 values)) =
-    ap (smaller limit) (taken ∙ ap (λ ns. number ∷ ns) others) in
+    ap (smaller limit) (taken ∙ ap (λ ns. number ∷ ns) others) ∙ smaller-cons limit number (take (r.1 - r.0) (drop r.0 values)) in
     rw e (omega (arith, count))
 in_runs_by limit values rest number end place r rs false e now later h =
     let taken : take (place + 1 - place) (drop place values) ≡ number ∷ take (place + 1 - (place + 1)) rest =
     taken_first place (place + 1) number values rest (omega arith) now in
     let none : place + 1 - (place + 1) ≡ 0 = omega arith in
     let count : smaller limit (take (place + 1 - place) (drop place values)) ≡ one_smaller limit number =
-    ap (smaller limit) (taken ∙ ap (λ n. number ∷ take n rest) none) ∙ single limit number in
+    ap (smaller limit) (taken ∙ ap (λ n. number ∷ take n rest) none) ∙ smaller_one limit number in
     rw e (omega (arith, count))
 
 in_runs_one : (limit : ℤ) (values rest : List ℤ) (number : ℤ) (end place : ℕ) (rs : List (ℕ × ℕ))
@@ -148,7 +161,7 @@ in_runs_one limit values rest number end place [] now later h =
     taken_first place (place + 1) number values rest (omega arith) now in
     let none : place + 1 - (place + 1) ≡ 0 = omega arith in
     let count : smaller limit (take (place + 1 - place) (drop place values)) ≡ one_smaller limit number =
-    ap (smaller limit) (taken ∙ ap (λ n. number ∷ take n rest) none) ∙ single limit number in
+    ap (smaller limit) (taken ∙ ap (λ n. number ∷ take n rest) none) ∙ smaller_one limit number in
     omega (arith, count)
 in_runs_one limit values rest number end place (r ∷ rs) now later h = in_runs_by limit values rest number end place r rs (eqb (place + 1) r.0) refl now later h
 
@@ -168,14 +181,17 @@ in_runs_from : (limit : ℤ) (ty : ColType) (values : List ℤ) (place : ℕ) (c
 unfolding runs_from
 in_runs_from limit ty values place [] some fit e = refl
 in_runs_from limit ty values place (Null ∷ cells) some fit e =
+    let rest : in_runs limit values (runs_from (place + 1) (map is_present cells) []) ≡ passing limit cells =
     in_runs_from limit ty values (place + 1) cells some (All-tail (λ cell. CellFits cell ty) Null cells fit)
-    (drop_next place (number_of Null) values (map number_of cells) e)
+    (drop_next place (number_of Null) values (map number_of cells) e) in
+    omega (arith, rest, passing-cons limit Null cells)
 in_runs_from limit ty values place (Whole number ∷ cells) some fit e =
     let later : drop (place + 1) values ≡ map number_of cells = drop_next place number values (map number_of cells) e in
     in_runs_one limit values (map number_of cells) number (place + 1 + length (map is_present cells)) place (runs_from (place + 1) (map is_present cells) []) e later
     (within_from (place + 1 + length (map is_present cells)) (place + 1) (map is_present cells) refl)
     ∙ ap (λ k. one_smaller limit number + k)
     (in_runs_from limit ty values (place + 1) cells some (All-tail (λ cell. CellFits cell ty) (Whole number) cells fit) later)
+    ∙ sym (passing-cons limit (Whole number) cells)
 in_runs_from limit ty values place (Word word ∷ cells) some fit e =
     absurd (no_word ty word some (All-head (λ cell. CellFits cell ty) (Word word) cells fit))
 

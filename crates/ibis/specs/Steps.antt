@@ -8,7 +8,7 @@ use Rattle.fb_types.specs.Types.{ends_of}
 use Rattle.where_grammar.specs.declared.clause.ClauseFault.{ClauseFault}
 use Rattle.where_grammar.specs.declared.clause.ClauseFault.TheVariants as text
 use Rattle.where_grammar.specs.declared.clause.QueryKind.{QueryKind}
-use Rattle.where_grammar.specs.declared.clause.QueryKind.TheVariants.{Syntax}
+use Rattle.where_grammar.specs.declared.clause.QueryKind.TheVariants.{Syntax, Unknown, WrongType}
 use Rattle.dataset.specs.Damage.{Damage, IsColumnDamaged}
 use Rattle.dataset.specs.Found.{Found, IsFound}
 use Rattle.dataset.specs.declared.content.Dataset.{Dataset}
@@ -19,6 +19,8 @@ use Rattle.statuses.specs.declared.Status.TheVariants.{BadQuery}
 use Rattle.statuses.specs.declared.stop.Stop.{Stop}
 use Rattle.statuses.specs.declared.stop.Stop.TheVariants.{Refused, ReadFault, StoreFault, OutOfMemory}
 use Rattle.ibis.specs.declared.query.Below.{Below}
+use Rattle.ibis.specs.declared.query.NameFault.{NameFault}
+use Rattle.ibis.specs.declared.query.NameFault.TheVariants as fault
 use Rattle.ibis.specs.Count.{damaged_status, dataset_or_refusal}
 use Rattle.ibis.specs.Query.{resolved}
 
@@ -58,9 +60,10 @@ pub record IsAsked (schema : List Column) (below : Below) (column : Column) : Ty
   pub whole : IsSome (ends_of column.ty)
   pub resolves : resolved schema below ≡ Ok below
 
-abbrev pub Resolves : List Column → Below → Result (Bor Column) QueryKind → Type 0
+abbrev pub Resolves : List Column → Below → Result (Bor Column) NameFault → Type 0
 Resolves schema below (Ok column) = IsAsked schema below column.now
-Resolves schema below (Err kind) = resolved schema below ≡ Err (BadQuery kind)
+Resolves schema below (Err fault.Unknown) = resolved schema below ≡ Err (BadQuery (Unknown below.name))
+Resolves schema below (Err fault.WrongType) = resolved schema below ≡ Err (BadQuery (WrongType below.name))
 
 -- ---- the column's files
 

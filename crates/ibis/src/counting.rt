@@ -15,7 +15,7 @@ ghost use Rattle.ibis.specs.Rows.{HasColumn, HasParts, cells_in_parts, passing};
 ghost use Rattle.ibis.specs.Steps.{StopsIn};
 
 use crate::opening::{damaged, opened, stop_of_part};
-use crate::query::{bad_query, below_of, resolve, stop_of_text};
+use crate::query::{Below, NameFault, bad_query, below_of, resolve, stop_of_text};
 use crate::rows::{RowsFault, count_rows};
 use dataset::{DamageKind, Dataset, open_part_column};
 use fb_outside::{FileName, Store};
@@ -25,6 +25,7 @@ use statuses::Stop;
 use std::alloc::Global;
 use std::sync::ledger::Ledger;
 use steps::Steps;
+use where_grammar::QueryKind;
 
 /// How many records there are of the dataset at the path that the query's clause holds on. No file changes.
 pub fn count<S: Store, L: Ledger>(
@@ -57,10 +58,10 @@ pub fn count<S: Store, L: Ledger>(
         Ok(dataset) => dataset,
         Err(stop) => return Err(stop),
     };
-    let limit = below.limit;
-    match resolve(&dataset.schema, below) {
-        Ok(column) => count_parts(alloc, store, &dataset, column, limit, steps),
-        Err(kind) => Err(bad_query(kind)),
+    match resolve(&dataset.schema, &below) {
+        Ok(column) => count_parts(alloc, store, &dataset, column, &below, steps),
+        Err(NameFault::Unknown) => Err(bad_query(QueryKind::Unknown(below.name))),
+        Err(NameFault::WrongType) => Err(bad_query(QueryKind::WrongType(below.name))),
     }
 }
 
@@ -70,7 +71,7 @@ fn count_parts<S: Store, L: Ledger>(
     store: &mut S,
     dataset: &Dataset,
     column: &Column,
-    limit: i128,
+    below: &Below,
     steps: &mut Steps<L>,
 ) -> Result<u64, Stop>
     requires valid { IsDataset dataset.now }
@@ -80,11 +81,11 @@ fn count_parts<S: Store, L: Ledger>(
     ensures files { SameFiles (S.files store.old) (S.files store.new) }
     ensures stop { IfErr result (StopsIn (S.files store.old) dataset.now column.now.name) }
     ensures counts { (m : Files) (col : ℕ) (parts : List Partition) → S.files store.old ≡ Some m → HasParts m dataset.now column.now col parts
-        → IfOk result (λ hits. hits ≡ passing limit (cells_in_parts col parts)) }
+        → IfOk result (λ hits. hits ≡ passing below.now.limit (cells_in_parts col parts)) }
 {
     let mut hits = 0;
     for part in dataset.parts.as_slice() {
-        hits += count_part(alloc, store, dataset, part, column, limit, steps)?;
+        hits += count_part(alloc, store, dataset, part, column, below, steps)?;
     }
     Ok(hits)
 }
@@ -96,7 +97,7 @@ fn count_part<S: Store, L: Ledger>(
     dataset: &Dataset,
     part: &PartMeta,
     column: &Column,
-    limit: i128,
+    below: &Below,
     steps: &mut Steps<L>,
 ) -> Result<u64, Stop>
     requires path { IsPath dataset.now.dir }
@@ -110,13 +111,13 @@ fn count_part<S: Store, L: Ledger>(
     ensures few { IfOk result (λ hits. hits ≤ part.now.rows) }
     ensures stop { IfErr result (StopsIn (S.files store.old) dataset.now column.now.name) }
     ensures counts { (m : Files) (cells : List Cell) → S.files store.old ≡ Some m → length cells ≡ part.now.rows
-        → HasColumn m dataset.now.dir part.now.number column.now cells → IfOk result (λ hits. hits ≡ passing limit cells) }
+        → HasColumn m dataset.now.dir part.now.number column.now cells → IfOk result (λ hits. hits ≡ passing below.now.limit cells) }
 {
     let found = match open_part_column(alloc, store, dataset, part, column) {
         Ok(found) => found,
         Err(fault) => return Err(stop_of_part(fault)),
     };
-    match count_rows(store, &found, limit, steps) {
+    match count_rows(store, &found, below, steps) {
         Ok(hits) => Ok(hits),
         Err(RowsFault::Short { want, have }) => {
             Err(damaged(found.name, DamageKind::Length, want, have))

@@ -93,19 +93,26 @@ pub(crate) fn bad_query(kind: QueryKind) -> Stop
     Stop::Refused(Status::BadQuery { kind })
 }
 
+/// Why no column is asked for.
+#[derive(Debug, Drop)]
+pub(crate) enum NameFault {
+    Unknown,
+    WrongType,
+}
+
 /// The column whose numbers are asked for.
-pub(crate) fn resolve<'a>(schema: &'a Schema, below: Below) -> Result<&'a Column, QueryKind>
-    ensures { Resolves schema.now below result }
+pub(crate) fn resolve<'a>(schema: &'a Schema, below: &Below) -> Result<&'a Column, NameFault>
+    ensures { Resolves schema.now below.now result }
 {
     match column_named(schema, below.name.bytes()) {
         Some(column) => {
             if is_whole(column.ty) {
                 Ok(column)
             } else {
-                Err(QueryKind::WrongType(below.name))
+                Err(NameFault::WrongType)
             }
         }
-        None => Err(QueryKind::Unknown(below.name)),
+        None => Err(NameFault::Unknown),
     }
 }
 

@@ -8,6 +8,7 @@ ghost use Rattle.fb_types.specs.Types.{ends_of, width_of};
 ghost use Rattle.column_file.specs.Values.{width_in};
 ghost use Rattle.ibis.specs.Rows.{HasCells, HasValues, passing, smaller};
 
+use crate::query::Below;
 use column_file::{ColFault, ColumnRef, MAX_ROWS_READ, read_rows};
 use fb_outside::Store;
 use std::sync::ledger::Ledger;
@@ -30,7 +31,7 @@ pub(crate) enum RowsFault {
 pub(crate) fn count_rows<S: Store, L: Ledger>(
     store: &mut S,
     column: &ColumnRef,
-    limit: i128,
+    below: &Below,
     steps: &mut Steps<L>,
 ) -> Result<u64, RowsFault>
     requires whole { IsSome (ends_of column.now.ty) }
@@ -43,12 +44,12 @@ pub(crate) fn count_rows<S: Store, L: Ledger>(
     // Over a file of the right length all bytes come, and the hits are those of the cells that the files have.
     ensures whole { (bytes : List ℕ) → told_at (S.files store.old) column.now.name ≡ Some bytes → length bytes ≡ column.now.rows * width_in column.now.ty
         → OnErr result (IsErrOf result RowsFault.Store) }
-    ensures counts { (cells : List Cell) → HasCells (S.files store.old) column.now cells → IfOk result (λ hits. hits ≡ passing limit cells) }
+    ensures counts { (cells : List Cell) → HasCells (S.files store.old) column.now cells → IfOk result (λ hits. hits ≡ passing below.now.limit cells) }
 {
     let mut runs = row_runs(&column.mask);
     let mut hits = 0;
     while let Some((first, past)) = runs.advance(steps) {
-        hits += count_run(store, column, first, past, limit)?;
+        hits += count_run(store, column, first, past, below)?;
     }
     Ok(hits)
 }
@@ -59,7 +60,7 @@ fn count_run<S: Store>(
     column: &ColumnRef,
     first: u32,
     past: u32,
-    limit: i128,
+    below: &Below,
 ) -> Result<u64, RowsFault>
     requires width { IsSome (width_of column.now.ty) }
     requires order { first ≤ past }
@@ -70,14 +71,14 @@ fn count_run<S: Store>(
     ensures whole { (bytes : List ℕ) → told_at (S.files store.old) column.now.name ≡ Some bytes → length bytes ≡ column.now.rows * width_in column.now.ty
         → OnErr result (IsErrOf result RowsFault.Store) }
     ensures counts { (values : List ℤ) → HasValues (S.files store.old) column.now values
-        → IfOk result (λ hits. hits ≡ smaller limit (take (past - first) (drop first values))) }
+        → IfOk result (λ hits. hits ≡ smaller below.now.limit (take (past - first) (drop first values))) }
 {
     let mut block = [0; MAX_ROWS_READ];
     let mut at = first;
     let mut hits = 0;
     while at < past {
         let rows = block_rows(past - at);
-        hits += count_block(store, column, at, &mut block[..rows], limit)?;
+        hits += count_block(store, column, at, &mut block[..rows], below)?;
         at += rows as u32;
     }
     Ok(hits)
@@ -104,7 +105,7 @@ fn count_block<S: Store>(
     column: &ColumnRef,
     first: u32,
     block: &mut [i128],
-    limit: i128,
+    below: &Below,
 ) -> Result<u64, RowsFault>
     requires width { IsSome (width_of column.now.ty) }
     requires rows { first + length block.old ≤ column.now.rows }
@@ -115,10 +116,10 @@ fn count_block<S: Store>(
     ensures whole { (bytes : List ℕ) → told_at (S.files store.old) column.now.name ≡ Some bytes → length bytes ≡ column.now.rows * width_in column.now.ty
         → OnErr result (IsErrOf result RowsFault.Store) }
     ensures counts { (values : List ℤ) → HasValues (S.files store.old) column.now values
-        → IfOk result (λ hits. hits ≡ smaller limit (take (length block.old) (drop first values))) }
+        → IfOk result (λ hits. hits ≡ smaller below.now.limit (take (length block.old) (drop first values))) }
 {
     match read_rows(store, column, first, block) {
-        Ok(()) => Ok(count_smaller(block, limit)),
+        Ok(()) => Ok(count_smaller(block, below.limit)),
         Err(ColFault::WrongLength { want, have }) => Err(RowsFault::Short { want, have }),
         Err(_) => Err(RowsFault::Store),
     }

@@ -9,7 +9,7 @@ loop-first-init g c =
       kept = refl;
       within = start_within c.args.column.now.mask c.row_runs-runs.result.runs c.args.column.now.rows c.row_runs-runs.ensures.runs c.requires.mask;
       few = start_few c.args.column.now.mask c.row_runs-runs.result.runs c.args.column.now.rows c.row_runs-runs.ensures.runs c.requires.mask;
-      counts = λ cells has. start_counts c.args.limit _ c.args.column.now c.row_runs-runs.result.runs cells c.row_runs-runs.ensures.runs c.requires.whole has;
+      counts = λ cells has. start_counts c.args.below.now.limit _ c.args.column.now c.row_runs-runs.result.runs cells c.row_runs-runs.ensures.runs c.requires.whole has;
     }
 
 pub overflow_add-hits : goal.overflow_add-hits

@@ -13,7 +13,7 @@ invariant-loop-first g l = record {
   within : Within l.column.rows l.runs.runs;
   few : l.hits + rows_of_runs l.runs.runs ≤ l.column.rows;
   counts : (cells : List Cell) → HasCells (g.S.Store.files l.fn.store) l.column cells
-      → l.hits + in_runs l.fn.limit (map number_of cells) l.runs.runs ≡ passing l.fn.limit cells;
+      → l.hits + in_runs l.below.limit (map number_of cells) l.runs.runs ≡ passing l.below.limit cells;
 }
 
 abbrev pub decreases-loop-first : goal.decreases-loop-first

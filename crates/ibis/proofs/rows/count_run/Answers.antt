@@ -17,7 +17,7 @@ loop-at-preserved g c =
       within = omega (arith, c.loop-at.invariant.within, c.block_rows-rows.ensures.within, c.loop-at-test.true);
       few = omega (arith, c.in_ok-hits.ensures.few, size, c.loop-at.invariant.few, c.loop-at.invariant.after);
       counts = λ values has.
-          next_block c.args.limit values c.args.first c.loop-at.at c.block_rows-rows.result _ _ c.loop-at.hits c.in_ok-hits.field-0 c.loop-at.invariant.after refl size
+          next_block c.args.below.now.limit values c.args.first c.loop-at.at c.block_rows-rows.result _ _ c.loop-at.hits c.in_ok-hits.field-0 c.loop-at.invariant.after refl size
           (c.loop-at.invariant.counts values has)
           (c.in_ok-hits.ensures.counts values (subst (λ (files : Option Files). HasValues files c.args.column.now values) (sym c.loop-at.invariant.kept) has));
     }

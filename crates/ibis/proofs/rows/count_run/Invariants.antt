@@ -12,7 +12,7 @@ invariant-loop-at g l = record {
   within : l.at ≤ l.past;
   few : l.hits ≤ l.at - l.first;
   counts : (values : List ℤ) → HasValues (g.S.Store.files l.fn.store) l.column values
-      → l.hits ≡ smaller l.fn.limit (take (l.at - l.first) (drop l.first values));
+      → l.hits ≡ smaller l.below.limit (take (l.at - l.first) (drop l.first values));
 }
 
 abbrev pub decreases-loop-at : goal.decreases-loop-at

@@ -1,10 +1,9 @@
 -- The rows of a part that are counted are its cells, and a fault of its files is a damage of the dataset.
-use Rattle.std.proofs.Common.{◌≡◌, ◌≢◌, ◌+◌, ◌*◌, ◌<◌, ◌≤◌, ℕ, suc, ℤ, Bool, true, false, eqb, if◌then◌else◌, List, [], ◌∷◌, ◌++◌, length, take, map, Option, Some, None, IfSome, IsSome, Result, Ok, Err, refl, sym, ap, subst, ◌∙◌, arith}
+use Rattle.std.proofs.Common.{◌≡◌, ◌≢◌, ◌+◌, ◌*◌, ◌<◌, ◌≤◌, ℕ, zero, suc, ℤ, Bool, true, false, eqb, if◌then◌else◌, List, [], ◌∷◌, ◌++◌, length, take, map, Option, Some, None, IfSome, IsSome, Result, Ok, Err, refl, sym, ap, subst, ◌∙◌, arith}
 use Rattle.std.specs.List.{All, flat_map, slice_get}
 use Rattle.std.specs.Prelude.{IfErr, IfOk, IsErrOf, OnErr}
 use Rattle.std.proofs.lemmas.Bool.{eqb-true}
 use Rattle.std.proofs.lemmas.Grind.{flat_map-append}
-use Rattle.std.proofs.lemmas.List.{length-map}
 use Rattle.fb_outside.specs.Files.{Files, file_at, told_at}
 use Rattle.fb_types.specs.declared.cells.Cell.{Cell}
 use Rattle.fb_types.specs.declared.schemas.Column.{Column}
@@ -21,7 +20,7 @@ use Rattle.world.specs.PartFiles.{column_cells, is_present, number_of, part_data
 use Rattle.world.specs.World.{Partition}
 use Rattle.dataset.specs.Damage.{IsColumnDamaged}
 use Rattle.dataset.specs.InWorld.{stored_numbers}
-use Rattle.dataset.specs.PartColumns.{IfDamaged, IsOpened, OpensColumn, column_at, values_file}
+use Rattle.dataset.specs.PartColumns.{IfDamaged, IsOpened, OpensColumn, column_at, mask_file, values_file}
 use Rattle.dataset.specs.declared.content.Dataset.{Dataset}
 use Rattle.dataset.specs.declared.fault.DamageKind.TheVariants.{Length}
 use Rattle.dataset.specs.declared.fault.PartFault.{PartFault}
@@ -38,8 +37,12 @@ use Rattle.ibis.proofs.RowLemmas.{passing-append}
 some_same : {X : Type 0} {x y : X} → Some x ≡ Some y → x ≡ y
 some_same e = cc
 
-ok_same : {X E : Type 0} {x y : X} → Ok {E = E} x ≡ Ok {E = E} y → x ≡ y
-ok_same e = cc
+ok_bits : (x y : List Bool) (r : Result (List Bool) ColFault) → r ≡ Ok x → r ≡ Ok y → x ≡ y
+ok_bits x y r e h = cc
+
+numbers_many : {X Y : Type 0} (f : X → Y) (xs : List X) → length (map f xs) ≡ length xs
+numbers_many f [] = refl
+numbers_many f (x ∷ xs) = ap suc (numbers_many f xs)
 
 -- ---- a column that isn't opened
 
@@ -90,13 +93,14 @@ module _ (m : Files) (dataset : Dataset) (part : PartMeta) (column : Column) (fo
 
   mask_is : found.mask ≡ map is_present cells
   mask_is =
-      ok_same {E = ColFault} (sym is ∙ ap (λ n. column_in (width_in column.ty) n (file_at m (values_file dataset part column))
-      (file_at m (Rattle.part_meta.specs.FileNames.mask_name dataset.dir part.number column.name))) (sym size) ∙ has.numbers.opens)
+      let bits : column_at m dataset part column ≡ Ok (map is_present cells) =
+      ap (λ n. column_in (width_in column.ty) n (file_at m (values_file dataset part column)) (file_at m (mask_file dataset part column))) (sym size) ∙ has.numbers.opens in
+      ok_bits found.mask (map is_present cells) (column_at m dataset part column) is bits
 
   cells_in_files : HasCells (Some m) found cells
   cells_in_files =
       record {
-        numbers = record { told = told_values; fit = fit_values; rows = length-map number_of cells ∙ size ∙ sym opened.rows };
+        numbers = record { told = told_values; fit = fit_values; rows = numbers_many number_of cells ∙ size ∙ sym opened.rows };
         mask = mask_is;
         fit = subst (λ (ty : ColType). All (λ cell. Rattle.fb_types.specs.Cells.CellFits cell ty) cells) (sym opened.typed) has.fit;
       }
@@ -152,7 +156,7 @@ next_part m dataset column col parts limit k part hits more has listed counts be
     let p : Partition = at.from in
     let cells : List Cell = column_cells col p.records in
     let rows : length cells ≡ part.rows =
-    length-map (λ (record_ : List Cell). Rattle.std.specs.Prelude.slice_index_or record_ col Rattle.fb_types.specs.declared.cells.Cell.TheVariants.Null) p.records
+    numbers_many (λ (record_ : List Cell). Rattle.std.specs.Prelude.slice_index_or record_ col Rattle.fb_types.specs.declared.cells.Cell.TheVariants.Null) p.records
     ∙ ap (λ (q : PartMeta). q.rows) at.is in
     let there : HasColumn m dataset.dir part.number column cells =
     subst (λ (q : PartMeta). HasColumn m dataset.dir q.number column cells) at.is (All-at (λ (q : Partition). HasColumn m dataset.dir q.number column (column_cells col q.records)) parts k p at.at has.numbers) in
@@ -164,3 +168,7 @@ next_part m dataset column col parts limit k part hits more has listed counts be
     let whole = passing-append limit (cells_in_parts col (take k parts)) (cells ++ []) in
     let last = passing-append limit cells [] in
     omega (arith, before, now, ap (passing limit) split, whole, last)
+
+pub all_parts : (m : Files) (dataset : Dataset) (column : Column) (col : ℕ) (parts : List Partition) (k : ℕ) → HasParts m dataset column col parts
+    → length dataset.parts ≤ k → length parts ≤ k
+all_parts m dataset column col parts k has h = omega (arith, ap length has.are, numbers_many (part_data dataset.schema) parts)

@@ -18,7 +18,7 @@ use Rattle.statuses.specs.Outcome.{◌>>=◌}
 use Rattle.ibis.specs.declared.query.Below.{Below}
 use Rattle.ibis.specs.Listing.{ListComes, ListGives, list_result, listing}
 use Rattle.ibis.specs.Query.{column_in, resolved, typed_or_refusal}
-use Rattle.ibis.specs.Steps.{Finds, IsAsked, Opened}
+use Rattle.ibis.specs.Steps.{Finds, IsAsked, Opened, StopsIn}
 
 -- ---- the column of a name
 
@@ -44,8 +44,8 @@ module _ (schema : List Column) (below : Below) (column : Column) where
 
   pub asked : (name : List ℕ) (whole : Bool) → Some column ≡ column_in schema (place_of schema name) → name ≡ below.name
       → whole ≡ is_some (ends_of column.ty) → whole ≡ true → IsAsked schema below column
-  asked name whole h same is yes =
-      asked_by (place_of schema below.name) refl (h ∙ ap (λ n. column_in schema (place_of schema n)) same) (sym is ∙ yes)
+  asked name whole h same is passed =
+      asked_by (place_of schema below.name) refl (h ∙ ap (λ n. column_in schema (place_of schema n)) same) (sym is ∙ passed)
 
 -- ---- a listing
 
@@ -60,3 +60,9 @@ pub listing_comes : (dir : List ℕ) (files : Option Files) (dataset : Dataset) 
     → ListComes dir files (Ok text)
 unfolding list_result
 listing_comes dir files dataset text h e = record { found = h.found; told = h.told; is = rw h.is (ap Ok (sym e)) }
+
+-- ---- a step that may stop
+
+pub stops_where : (files : Option Files) (dataset : Dataset) (name : List ℕ) (result : Result ℕ Stop) → IfErr result (StopsIn files dataset name)
+    → (stop : Stop) → result ≡ Err stop → StopsIn files dataset name stop
+stops_where files dataset name result h stop e = subst (λ (r : Result ℕ Stop). IfErr r (StopsIn files dataset name)) e h

@@ -187,7 +187,7 @@ module _ (m : Files) (world : World) (dir : List ℕ) (stands : Stands m world) 
             };
       }
 
-  Counts : Dataset → Below → Column → ℕ → ℕ → Type 0
+  abbrev pub Counts : Dataset → Below → Column → ℕ → ℕ → Type 0
   Counts dataset below column col count = (parts : List Partition) → HasParts m dataset column col parts → count ≡ passing below.limit (cells_in_parts col parts)
 
   counted_by : (query : List ℕ) (below : Below) (dataset : Dataset) (column : Column) (count : ℕ) (is : IsAsked dataset.schema below column)
@@ -215,7 +215,7 @@ module _ (m : Files) (world : World) (dir : List ℕ) (stands : Stands m world) 
   -- a refusal is the world's: no file is damaged
   refused_by : (query : List ℕ) (found : Found) (status : Status) (r : Result Below Status) → asked_of dir query found ≡ r → IfOk r (λ below. IsFound m dir found)
       → CountsBy (Some m) found r (Err status) → r ≡ Err status
-  refused_by query found status (Err s) e told h = sym h
+  refused_by query found status (Err s) e told h = let same : s ≡ status = cc in ap Err same
   refused_by query Absent status (Ok below) e told h = absurd h.2
   refused_by query (Broken damage) status (Ok below) e told h = absurd h.2
   refused_by query (There dataset) status (Ok below) e told h = absurd (columns_undamaged m world dir below.name dataset h.0 stands path told h.2)

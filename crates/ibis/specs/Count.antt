@@ -16,7 +16,8 @@ use Rattle.statuses.specs.declared.Status.TheVariants.{Done, NoDataset, Damaged}
 use Rattle.statuses.specs.declared.stop.Stop.{Stop}
 use Rattle.statuses.specs.declared.stop.Stop.TheVariants.{Refused, ReadFault, StoreFault, OutOfMemory}
 use Rattle.statuses.specs.Outcome.{◌>>=◌, Outcome, refused}
-use Rattle.ibis.specs.Query.{Below, clause_of, query_or_refusal, read_query, resolved}
+use Rattle.ibis.specs.declared.query.Below.{Below}
+use Rattle.ibis.specs.Query.{clause_of, query_or_refusal, read_query, resolved}
 
 -- ---- the refusals, whose causes the query and the path have
 
@@ -75,10 +76,10 @@ CountsBy files found (Ok below) (Ok count) = ⊤
 CountsBy files found (Ok below) (Err status) =
     (damage : Damage) × (status ≡ damaged_status damage) × IfSome files (λ m. IsDamagedIn m found below.name damage)
 
--- the same of a store, which may not tell its files
+-- the same of a store, which may not tell its files; what the path has counts for nothing where the query's text is refused
 pub record CountComes (dir query : List ℕ) (files : Option Files) (result : Result ℕ Status) : Type 0 where
   pub found : Found
-  pub told : IfSome files (λ m. IsFound m dir found)
+  pub told : IfOk (read_query query) (λ below. IfSome files (λ m. IsFound m dir found))
   pub counts : CountsBy files found (asked_of dir query found) result
 
 -- and of a command that may stop

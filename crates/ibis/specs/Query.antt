@@ -1,5 +1,5 @@
 -- The clause of a query, and the columns that it names.
-use Rattle.std.specs.Prelude.{ℕ, ℤ, List, Option, Some, None, Result, Ok, Err, is_some, slice_get, if◌then◌else◌}
+use Rattle.std.specs.Prelude.{ℕ, List, Option, Some, None, Result, Ok, Err, is_some, slice_get, if◌then◌else◌}
 use Rattle.fb_types.specs.declared.schemas.Column.{Column}
 use Rattle.fb_types.specs.Schemas.{place_of}
 use Rattle.fb_types.specs.Types.{ends_of}
@@ -13,6 +13,7 @@ use Rattle.where_grammar.specs.declared.clause.Clause.TheOpen.{Clause-F}
 use Rattle.where_grammar.specs.declared.clause.QueryKind.{QueryKind}
 use Rattle.where_grammar.specs.declared.clause.QueryKind.TheVariants.{Syntax, Unknown, WrongType}
 use Rattle.where_grammar.specs.Language.{after_where, read_where}
+use Rattle.ibis.specs.declared.query.Below.{Below}
 use Rattle.statuses.specs.declared.Status.{Status}
 use Rattle.statuses.specs.declared.Status.TheVariants.{BadQuery}
 
@@ -22,11 +23,7 @@ abbrev pub clause_behind : Option (List ℕ) → Result Clause QueryKind
 clause_behind None = Err Syntax
 clause_behind (Some rest) = read_where rest
 
--- as yet a question has one form, `NAME < NUMBER`: the name and the number
-pub record Below : Type 0 where
-  pub name : List ℕ
-  pub limit : ℤ
-
+-- as yet a question has one form, `NAME < NUMBER`: the name and the number are asked
 abbrev pub less_than : Atom → Result Below QueryKind
 less_than (atom.Compare name Less value) = Ok (record { name = name; limit = value })
 less_than _ = Err Syntax

@@ -3,6 +3,9 @@
 
 mod counting;
 mod listing;
+mod opening;
+mod query;
+mod rows;
 
 pub use counting::count;
 pub use listing::list;

@@ -1,0 +1,71 @@
+//! The dataset at a path, and what opening answers as a refusal.
+
+ghost use Rattle.std.specs.Prelude.{◌≡◌, IfOk, IsErrOf};
+ghost use Rattle.fb_outside.specs.Causes.{HasCause};
+ghost use Rattle.fb_outside.specs.Files.{SameFiles};
+ghost use Rattle.fb_outside.specs.Names.{IsPath};
+ghost use Rattle.dataset.specs.Opened.{IsDataset};
+ghost use Rattle.ibis.specs.Count.{damaged_status};
+ghost use Rattle.ibis.specs.Steps.{Finds, stop_of_part};
+
+use dataset::{DamageKind, Dataset, OpenFault, PartFault, open_dataset};
+use fb_outside::{FileName, Store};
+use part_meta::catalog_of;
+use statuses::{Status, Stop};
+use std::alloc::Global;
+
+/// The dataset at the path.
+pub(crate) fn opened<S: Store>(
+    alloc: Global,
+    store: &mut S,
+    dir: &FileName,
+) -> Result<Dataset, Stop>
+    requires path { IsPath dir.now }
+    ensures cause { HasCause (S.faults store.old) (S.faults store.new) (IsErrOf result Stop.StoreFault) }
+    ensures files { SameFiles (S.files store.old) (S.files store.new) }
+    ensures valid { IfOk result IsDataset }
+    ensures finds { Finds dir.now (S.files store.old) result }
+{
+    match open_dataset(alloc, store, dir) {
+        Ok(dataset) => Ok(dataset),
+        Err(OpenFault::NoDataset) => {
+            let file = catalog_of(alloc, dir)?;
+            Err(Stop::Refused(Status::NoDataset { file }))
+        }
+        Err(OpenFault::Damaged {
+            file,
+            kind,
+            want,
+            have,
+        }) => Err(damaged(file, kind, want, have)),
+        Err(OpenFault::Store) => Err(Stop::StoreFault),
+        Err(OpenFault::OutOfMemory) => Err(Stop::OutOfMemory),
+    }
+}
+
+/// The answer to a column that isn't opened.
+pub(crate) fn stop_of_part(fault: PartFault) -> Stop
+    ensures { result ≡ stop_of_part fault }
+{
+    match fault {
+        PartFault::Damaged {
+            file,
+            kind,
+            want,
+            have,
+        } => damaged(file, kind, want, have),
+        PartFault::Store => Stop::StoreFault,
+        PartFault::OutOfMemory => Stop::OutOfMemory,
+    }
+}
+
+pub(crate) fn damaged(file: FileName, kind: DamageKind, want: u64, have: u64) -> Stop
+    ensures { result ≡ Stop.Refused (damaged_status (record { file = file; kind = kind; want = want; have = have })) }
+{
+    Stop::Refused(Status::Damaged {
+        file,
+        kind,
+        want,
+        have,
+    })
+}

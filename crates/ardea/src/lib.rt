@@ -58,6 +58,3 @@ pub fn load<I: Source, S: Store, L: Ledger>(
     add(alloc, store, &mut dataset, &columns, per_part, steps)?;
     Ok(columns.rows())
 }
-
-#[cfg(test)]
-mod tests;

@@ -1,5 +1,5 @@
 -- The rows of a part that are counted are its cells, and a fault of its files is a damage of the dataset.
-use Rattle.std.proofs.Common.{◌≡◌, ◌≢◌, ◌+◌, ◌*◌, ◌<◌, ◌≤◌, ℕ, zero, suc, ℤ, Bool, true, false, eqb, if◌then◌else◌, List, [], ◌∷◌, ◌++◌, length, take, map, Option, Some, None, IfSome, IsSome, Result, Ok, Err, refl, sym, ap, subst, ◌∙◌, arith}
+use Rattle.std.proofs.Common.{◌≡◌, ◌≢◌, ◌+◌, ◌*◌, ◌<◌, ◌≤◌, ℕ, zero, suc, ℤ, Bool, true, false, eqb, if◌then◌else◌, List, [], ◌∷◌, ◌++◌, length, take, map, get_or, Option, Some, None, IfSome, IsSome, Result, Ok, Err, refl, sym, ap, subst, ◌∙◌, arith}
 use Rattle.std.specs.List.{All, flat_map, slice_get}
 use Rattle.std.specs.Prelude.{IfErr, IfOk, IsErrOf, OnErr}
 use Rattle.std.proofs.lemmas.Bool.{eqb-true}
@@ -20,6 +20,8 @@ use Rattle.world.specs.PartFiles.{column_cells, is_present, number_of, part_data
 use Rattle.world.specs.World.{Partition}
 use Rattle.dataset.specs.Damage.{IsColumnDamaged}
 use Rattle.dataset.specs.InWorld.{stored_numbers}
+use Rattle.dataset.specs.Opened.{IsDataset, IsPartOf}
+use Rattle.std.proofs.lemmas.Option.{slice_get_read}
 use Rattle.dataset.specs.PartColumns.{IfDamaged, IsOpened, OpensColumn, column_at, mask_file, values_file}
 use Rattle.dataset.specs.declared.content.Dataset.{Dataset}
 use Rattle.dataset.specs.declared.fault.DamageKind.TheVariants.{Length}
@@ -172,3 +174,11 @@ next_part m dataset column col parts limit k part hits more has listed counts be
 pub all_parts : (m : Files) (dataset : Dataset) (column : Column) (col : ℕ) (parts : List Partition) (k : ℕ) → HasParts m dataset column col parts
     → length dataset.parts ≤ k → length parts ≤ k
 all_parts m dataset column col parts k has h = omega (arith, ap length has.are, numbers_many (part_data dataset.schema) parts)
+
+-- a part that is looked at is one of the dataset
+pub part_at : (dataset : Dataset) (items : List PartMeta) (k : ℕ) (part : PartMeta) → IsDataset dataset → items ≡ dataset.parts → k < length items
+    → part ≡ get_or items k part → (part.rows ≤ 4194304) × (slice_get dataset.parts k ≡ Some part)
+part_at dataset items k part valid same less is =
+    let listed : slice_get dataset.parts k ≡ Some part =
+    subst (λ (xs : List PartMeta). slice_get xs k ≡ Some part) same (slice_get_read items (length items) k part refl less is) in
+    ((All-at (IsPartOf dataset) dataset.parts k part listed valid.parts).0.few, listed)

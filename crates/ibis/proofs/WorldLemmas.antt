@@ -63,6 +63,9 @@ is_there dir Absent dataset e = absurd (cc)
 is_there dir (There d) dataset e = let same : d ≡ dataset = cc in ap There same
 is_there dir (Broken damage) dataset e = absurd (cc)
 
+err_same : (files : Option Files) (found : Found) (a b : Status) → CountsBy files found (Err b) (Err a) → a ≡ b
+err_same files found a b e = cc
+
 -- ---- what a question comes to
 
 comes_refused : (dir query : List ℕ) (files : Option Files) (found : Found) (status : Status)
@@ -224,9 +227,9 @@ module _ (m : Files) (world : World) (dir : List ℕ) (stands : Stands m world) 
       → asked_of dir query (found_in world dir) ≡ Err status
   refused_read query status (Err kind) e h =
       let asked : asked_of dir query h.found ≡ Err (BadQuery kind) = asked_refused dir query h.found kind e in
-      let is : Err status ≡ Err {A = Below} (BadQuery kind) =
-      let given : Err {A = ℕ} status ≡ Err (BadQuery kind) = subst (λ (r : Result Below Status). CountsBy (Some m) h.found r (Err status)) asked h.counts in cc in
-      asked_refused dir query (found_in world dir) kind e ∙ sym is
+      let same : status ≡ BadQuery kind =
+      err_same (Some m) h.found status (BadQuery kind) (subst (λ (r : Result Below Status). CountsBy (Some m) h.found r (Err status)) asked h.counts) in
+      asked_refused dir query (found_in world dir) kind e ∙ ap Err (sym same)
   refused_read query status (Ok below) e h =
       let told : IsFound m dir h.found = subst (λ (r : Result Below QueryKind). IfOk r (λ (b : Below). IsFound m dir h.found)) e h.told in
       ap (asked_of dir query) (sym (found_is m world dir h.found stands path told))

@@ -32,12 +32,14 @@ pub(crate) fn opened<S: Store>(
             let file = catalog_of(alloc, dir)?;
             Err(Stop::Refused(Status::NoDataset { file }))
         }
-        Err(OpenFault::Damaged {
-            file,
-            kind,
-            want,
-            have,
-        }) => Err(damaged(file, kind, want, have)),
+        Err(
+            OpenFault::Damaged {
+                file,
+                kind,
+                want,
+                have,
+            },
+        ) => Err(damaged(file, kind, want, have)),
         Err(OpenFault::Store) => Err(Stop::StoreFault),
         Err(OpenFault::OutOfMemory) => Err(Stop::OutOfMemory),
     }

@@ -20,10 +20,7 @@ use where_grammar::Op;
 #[derive(Debug, Drop)]
 pub(crate) enum RowsFault {
     /// `have` bytes came where `want` had to be.
-    Short {
-        want: u64,
-        have: u64,
-    },
+    Short { want: u64, have: u64 },
     Store,
 }
 

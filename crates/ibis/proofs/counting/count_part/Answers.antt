@@ -17,4 +17,4 @@ returns-in-Err-Short-clause-stop g c =
     rw c.damaged.ensures
     (short_stops (g.S.Store.files c.args.store.now) (g.S.Store.files c.open_part_column.new.store) c.args.dataset.now c.args.part.now c.args.column.now
     c.in-Ok.found c.in-Err-Short.want c.in-Err-Short.have c.open_part_column.ensures.files c.in-Ok.ensures.opened c.in-Ok.ensures.exact
-    (λ bytes told size. rw c.in-Err-Short.field-0-is at c.in-Err-Short.ensures.whole bytes told size))
+    (λ bytes told size. let bad = rw c.in-Err-Short.field-0-is at (c.in-Err-Short.ensures.whole bytes told size) in cc))

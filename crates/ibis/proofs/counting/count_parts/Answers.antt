@@ -5,21 +5,20 @@ use Rattle.std.proofs.lemmas.Option.{slice_get_read}
 use Rattle.fb_outside.specs.Files.{Files}
 use Rattle.part_meta.specs.declared.part.PartMeta.{PartMeta}
 use Rattle.ibis.specs.Rows.{cells_in_parts, passing}
-use Rattle.ibis.proofs.PartLemmas.{all_parts, next_part}
+use Rattle.ibis.proofs.PartLemmas.{all_parts, next_part, part_at}
 use Rattle.ibis.proofs.counting.count_parts.Goals as goal
 
 pub loop-part-preserved : goal.loop-part-preserved
 loop-part-preserved g c =
+    let at = part_at c.args.dataset.now _ c.loop-part.part-index c.part-item.result c.requires.valid c.as_slice-part-items.ensures
+    (omega (arith, c.loop-part-test.true)) c.part-item.is in
     record {
       unfailed = (rw c.in_ok-hits.was at c.count_part.ensures.cause).told (λ e. cc) ∙ c.loop-part.invariant.unfailed;
       kept = c.count_part.ensures.files ∙ c.loop-part.invariant.kept;
-      few = omega (arith, c.loop-part.invariant.few, c.in_ok-hits.ensures.few, c.count_part.ensures.few);
+      few = omega (arith, c.loop-part.invariant.few, c.in_ok-hits.ensures.few, at.0);
       counts = λ m col parts told has.
-          let listed : slice_get c.args.dataset.now.parts c.loop-part.part-index ≡ Some c.part-item.result =
-          slice_get_read c.args.dataset.now.parts (length c.args.dataset.now.parts) c.loop-part.part-index c.part-item.result
-          (omega arith) (omega (arith, c.loop-part-test.true, ap length c.as_slice-part-items.ensures)) (c.part-item.is) in
           next_part m c.args.dataset.now c.args.column.now col parts c.args.below.now.limit c.loop-part.part-index c.part-item.result c.loop-part.hits c.in_ok-hits.field-0
-          has listed (λ cells size there. c.in_ok-hits.ensures.counts m cells (c.loop-part.invariant.kept ∙ told) size there)
+          has at.1 (λ cells size there. c.in_ok-hits.ensures.counts m cells (c.loop-part.invariant.kept ∙ told) size there)
           (c.loop-part.invariant.counts m col parts told has);
     }
 

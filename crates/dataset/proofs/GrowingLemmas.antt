@@ -111,7 +111,7 @@ item xs next n i d = record {
 size : (xs : List ℕ) (next n : ℕ) → length (xs ++ range_with_len next n) ≡ length xs + n
 size xs next n = length-append xs (range_with_len next n) ∙ ap (λ k. length xs + k) (length-range_with_len next n)
 
-rising_behind : (xs : List ℕ) (next n : ℕ) → AllPairs (λ a b. a < b) xs → All (λ x. x < next) xs → AllPairs (λ a b. a < b) (xs ++ range_with_len next n)
+pub rising_behind : (xs : List ℕ) (next n : ℕ) → AllPairs (λ a b. a < b) xs → All (λ x. x < next) xs → AllPairs (λ a b. a < b) (xs ++ range_with_len next n)
 rising_behind xs next n rising below i j d before within =
     let all : j < length xs + n = omega (arith, size xs next n) in
     let at_i = item xs next n i d in
@@ -124,7 +124,7 @@ rising_behind xs next n rising below i j d before within =
         ]
     ]
 
-below_behind : (xs : List ℕ) (next n : ℕ) → All (λ x. x < next) xs → All (λ x. x < next + n) (xs ++ range_with_len next n)
+pub below_behind : (xs : List ℕ) (next n : ℕ) → All (λ x. x < next) xs → All (λ x. x < next + n) (xs ++ range_with_len next n)
 below_behind xs next n below i d within =
     let all : i < length xs + n = omega (arith, size xs next n) in
     let at = item xs next n i d in

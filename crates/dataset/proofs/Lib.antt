@@ -12,3 +12,4 @@ pub mod CodeLemmas
 pub mod FileLemmas
 pub mod GrowingLemmas
 pub mod RefusalLemmas
+pub mod AppendLemmas

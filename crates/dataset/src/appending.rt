@@ -56,12 +56,41 @@ pub fn append<S: Store, L: Ledger>(
     ensures unchanged { OnErr result (dataset.new ≡ dataset.old) }
 {
     let count = accepted(dataset, columns, per_part)?;
+    extend(alloc, store, dataset, columns, per_part, count, steps)?;
+    Ok(count)
+}
+
+/// Adds the parts that the records make to a dataset that takes them, and writes their files and the catalog. The parts
+/// are listed before anything is written, so that nothing can fail behind the catalog's `put`.
+fn extend<S: Store, L: Ledger>(
+    alloc: Global,
+    store: &mut S,
+    dataset: &mut Dataset,
+    columns: &Columns,
+    per_part: u32,
+    count: u32,
+    steps: &mut Steps<L>,
+) -> Result<(), AppendFault>
+    requires path { IsPath dataset.old.dir }
+    requires schema { dataset.old.schema ≡ columns.now.schema }
+    requires some { 1 ≤ per_part }
+    requires few { per_part ≤ 4194304 }
+    requires numbers { dataset.old.next + part_count per_part (length columns.now.records) ≤ 4096 }
+    requires count { count ≡ part_count per_part (length columns.now.records) }
+    ensures cause { HasCause (S.faults store.old) (S.faults store.new) (IsErrOf result AppendFault.Store) }
+    ensures reads { S.reads store.new ≡ S.reads store.old }
+    ensures files { PutsInOrder (append_files dataset.old.dir (catalog_in dataset.old) per_part columns.now.records) result
+        (S.files store.old) (S.files store.new) }
+    ensures grown { OnOk result (dataset.new ≡ appended dataset.old per_part columns.now.records) }
+    ensures unchanged { OnErr result (dataset.new ≡ dataset.old) }
+    ensures stop { IfErr result (λ fault. Refuses None fault) }
+{
     let next = dataset.next;
     if add_parts(alloc, dataset, columns, per_part).is_err() {
         return Err(AppendFault::OutOfMemory);
     }
     match write_files(alloc, store, dataset, next, columns, per_part, steps) {
-        Ok(()) => Ok(count),
+        Ok(()) => Ok(()),
         Err(trouble) => {
             take_back(dataset, next, count);
             Err(fault_for(trouble))

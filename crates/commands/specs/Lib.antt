@@ -3,3 +3,4 @@ pub mod Reply
 pub mod Effects
 pub mod Causes
 pub mod Order
+pub mod Runs

@@ -1,11 +1,15 @@
 //! One command, over any input, any store of files and any output: its reply, its effects, its causes.
 #![tactic(auto)]
 
+mod laws;
+mod printing;
+mod questions;
+
 ghost use Rattle.std.specs.Prelude.{◌≡◌, ◌≢◌, true, false, None, Some, IfSome};
 ghost use Rattle.fb_outside.specs.Causes.{HasCause};
 ghost use Rattle.fb_outside.specs.Files.{ChangesAmong, SameFiles};
 ghost use Rattle.fb_outside.specs.Streams.{ForSomeInput, IsAtEnd};
-ghost use Rattle.command_words.specs.Valid.{IsValid};
+ghost use Rattle.command_words.specs.Valid.{IsValid, IsValidLoad};
 ghost use Rattle.world.specs.World.{World};
 ghost use Rattle.world.specs.Stands.{StandsFor};
 ghost use Rattle.commands.specs.Command.{command_of, command_outcome};
@@ -13,10 +17,16 @@ ghost use Rattle.commands.specs.Reply.{Replies, is_fault};
 ghost use Rattle.commands.specs.Effects.{IsOfCommand, LeavesAfter};
 ghost use Rattle.commands.specs.Causes.{ComesTo, HasCauseIn, Says};
 ghost use Rattle.commands.specs.Order.{Yields, takes_input};
+ghost use Rattle.commands.specs.Runs.{LoadRuns};
+ghost use Rattle.ardea.specs.Order.{load_takes_input};
 
-use command_words::Job;
+use crate::printing::{print_loaded, refuse};
+use crate::questions::run_task;
+use ardea::load;
+use command_words::{Job, Load};
 use fb_outside::{Sink, Source, Store};
-use statuses::Status;
+pub use laws::{the_commands_of_requests, the_lines_of_commands};
+use statuses::{Status, Stop};
 use std::alloc::Global;
 use std::sync::ledger::Ledger;
 use steps::Steps;
@@ -58,5 +68,39 @@ pub fn run_command<I: Source, S: Store, K: Sink, L: Ledger>(
     ensures untouched { takes_input (command_of asked.now) ≡ false
         → (I.left input.new ≡ I.left input.old) × (I.faults input.new ≡ I.faults input.old) }
 {
-    Status::OutOfMemory
+    match asked {
+        Some(Job::Ardea(load)) => run_load(alloc, load, input, store, out, steps),
+        Some(Job::Ibis { dir, task }) => run_task(alloc, dir, task, store, out, steps),
+        Some(Job::Session) => refuse(alloc, out, Status::Usage),
+        Some(Job::Gen { .. }) => refuse(alloc, out, Status::Usage),
+        None => refuse(alloc, out, Status::Usage),
+    }
+}
+
+/// Runs a load, and prints how many records were loaded, or why none were.
+fn run_load<I: Source, S: Store, K: Sink, L: Ledger>(
+    alloc: Global,
+    asked: &Load,
+    input: &mut I,
+    store: &mut S,
+    out: &mut K,
+    steps: &mut Steps<L>,
+) -> Status
+    requires valid { IsValidLoad asked.now }
+    ensures runs { LoadRuns asked.now (I.left input.old) (S.files store.old) (S.files store.new)
+        (K.written out.old) (K.written out.new) result }
+    ensures end { asked.now.file ≡ None → result ≡ Status.Done → IsAtEnd (I.left input.new) }
+    ensures untouched { load_takes_input asked.now ≡ false
+        → (I.left input.new ≡ I.left input.old) × (I.faults input.new ≡ I.faults input.old) }
+    ensures read_cause { HasCause (I.faults input.old) (I.faults input.new) (result ≡ Status.ReadFault) }
+    ensures store_cause { HasCause (S.faults store.old) (S.faults store.new) (result ≡ Status.StoreFault) }
+    ensures print_cause { HasCause (K.faults out.old) (K.faults out.new) (result ≡ Status.SinkFault) }
+{
+    match load(alloc, asked, input, store, steps) {
+        Ok(rows) => print_loaded(alloc, out, rows),
+        Err(Stop::Refused(status)) => refuse(alloc, out, status),
+        Err(Stop::ReadFault) => Status::ReadFault,
+        Err(Stop::StoreFault) => Status::StoreFault,
+        Err(Stop::OutOfMemory) => Status::OutOfMemory,
+    }
 }

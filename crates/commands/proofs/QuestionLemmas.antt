@@ -12,33 +12,14 @@ use Rattle.statuses.specs.declared.Status.{Status}
 use Rattle.statuses.specs.declared.Status.TheVariants.{Done, StoreFault}
 use Rattle.statuses.specs.Lines.{line_of}
 use Rattle.statuses.specs.Outcome.{refused}
-use Rattle.ibis.specs.Query.{Below, read_query}
+use Rattle.ibis.specs.Query.{read_query}
 use Rattle.ibis.specs.Count.{CountComes, CountsBy, IsCountIn, answer_of, asked_of, count_outcome, counted, hits_line}
+use Rattle.ibis.proofs.WorldLemmas.{count_refused, list_is}
 use Rattle.ibis.specs.Listing.{ListComes, list_outcome, list_result, listed}
 use Rattle.commands.specs.Command.{Counts, Lists}
 use Rattle.commands.specs.Runs.{Answers, Prints, Runs, Unstored}
 use Rattle.commands.proofs.PrintLemmas.{some_input, some_told}
 use Rattle.commands.proofs.Refusals.{IsRefusal-count, IsRefusal-list}
-
--- ---- where the files stand for a world, a refusal is the world's
-
-module _ (m : Files) (w : World) (dir : List ℕ) (stands : Stands m w) (path : IsPath dir) where
-  refused_by : (found : Found) (r : Result Below Status) (status : Status) (content : Option Content) → IsFound m dir found
-      → CountsBy (Some m) found r (Err status) → Err status ≡ counted r content
-  refused_by found (Err why) status content h counts = counts
-  refused_by Absent (Ok below) status content h counts = absurd counts.2
-  refused_by (Broken broken) (Ok below) status content h counts = absurd counts.2
-  refused_by (There dataset) (Ok below) status content h counts =
-      absurd (columns_undamaged m w dir below.name dataset counts.0 stands path h counts.2)
-
-  count_refused : (query : List ℕ) (status : Status) → CountComes dir query (Some m) (Err status)
-      → Err status ≡ counted (asked_of dir query (found_in w dir)) (content_at w dir)
-  count_refused query status h =
-      refused_by h.found (asked_of dir query h.found) status (content_at w dir) h.told h.counts
-      ∙ ap (λ (f : Found). counted (asked_of dir query f) (content_at w dir)) (found_is m w dir h.found stands path h.told)
-
-  list_is : (result : Result (List ℕ) Status) → ListComes dir (Some m) result → result ≡ list_result dir (found_in w dir)
-  list_is result h = sym h.is ∙ ap (list_result dir) (found_is m w dir h.found stands path h.told)
 
 -- ---- a count
 
@@ -48,7 +29,7 @@ Reply dir query result w = answer_of result ≡ count_outcome dir query w
 refused_over : (dir query : List ℕ) (files : Option Files) (status : Status) (w : World) → IsPath dir → CountComes dir query files (Err status)
     → StandsFor files w → Reply dir query (Err status) w
 refused_over dir query None status w path comes h = absurd h
-refused_over dir query (Some m) status w path comes h = ap answer_of (count_refused m w dir h path query status comes)
+refused_over dir query (Some m) status w path comes h = sym (ap answer_of (count_refused m w dir h path query status comes))
 
 pub declines : (dir query : List ℕ) (left : Option (List ℕ)) (files : Option Files) (before after : Option (List ℕ)) (status refusal : Status)
     → IsPath dir → CountComes dir query files (Err refusal) → Prints refusal (line_of refusal) before after status
@@ -77,7 +58,7 @@ list_over : (dir : List ℕ) (files : Option Files) (result : Result (List ℕ) 
     → StandsFor files w → listed result ≡ list_outcome dir w
 list_over dir None result w path comes h = absurd h
 list_over dir (Some m) result w path comes h =
-    ap listed (list_is m w dir h path result comes)
+    sym (ap listed (list_is m w dir h path result comes))
 
 list_answers : (dir : List ℕ) (left : Option (List ℕ)) (files : Option Files) (result : Result (List ℕ) Status) → IsPath dir
     → ListComes dir files result → ForSomeInput left (λ input. (w : World) → StandsFor files w → listed result ≡ list_outcome dir w)

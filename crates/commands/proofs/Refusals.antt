@@ -24,7 +24,8 @@ use Rattle.statuses.specs.Outcome.{◌>>=◌}
 use Rattle.ardea.specs.Load.{Bytes, CutShort, Gives, NoFile, Reading, catalog_or_refusal, input_or_refusal, load_result, load_schema, load_table, most_input_bytes, most_rows, reading_or_refusal, records_or_refusal, rows_or_refusal, schema_or_refusal, text_or_refusal, unless_refused, within_limit}
 use Rattle.ibis.specs.Count.{CountComes, CountsBy, asked_of, dataset_or_refusal}
 use Rattle.ibis.specs.Listing.{ListComes, list_result, listing}
-use Rattle.ibis.specs.Query.{Below, column_in, query_or_refusal, read_query, resolved, typed_or_refusal}
+use Rattle.ibis.specs.declared.query.Below.{Below}
+use Rattle.ibis.specs.Query.{column_in, query_or_refusal, read_query, resolved, typed_or_refusal}
 use Rattle.commands.specs.Reply.{is_fault}
 
 pub record IsRefusal (status : Status) : Type 0 where

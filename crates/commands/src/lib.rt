@@ -69,11 +69,43 @@ pub fn run_command<I: Source, S: Store, K: Sink, L: Ledger>(
         → (I.left input.new ≡ I.left input.old) × (I.faults input.new ≡ I.faults input.old) }
 {
     match asked {
-        Some(Job::Ardea(load)) => run_load(alloc, load, input, store, out, steps),
-        Some(Job::Ibis { dir, task }) => run_task(alloc, dir, task, store, out, steps),
-        Some(Job::Session) => refuse(alloc, out, Status::Usage),
-        Some(Job::Gen { .. }) => refuse(alloc, out, Status::Usage),
+        Some(job) => run_job(alloc, job, input, store, out, steps),
         None => refuse(alloc, out, Status::Usage),
+    }
+}
+
+/// The same of a request. A session is no command by itself, and a generated table isn't there as yet.
+fn run_job<I: Source, S: Store, K: Sink, L: Ledger>(
+    alloc: Global,
+    job: &Job,
+    input: &mut I,
+    store: &mut S,
+    out: &mut K,
+    steps: &mut Steps<L>,
+) -> Status
+    requires valid { IsValid job.now }
+    ensures reply { ForSomeInput (I.left input.old) (λ bytes. (world : World) → StandsFor (S.files store.old) world
+        → Replies (command_outcome (command_of (Some job.now)) bytes world) result (K.written out.old) (K.written out.new)) }
+    ensures effects { ForSomeInput (I.left input.old) (λ bytes. (world : World) → StandsFor (S.files store.old) world
+        → LeavesAfter (command_outcome (command_of (Some job.now)) bytes world).effects world result (S.files store.new)) }
+    ensures end { takes_input (command_of (Some job.now)) ≡ true → result ≡ Status.Done → IsAtEnd (I.left input.new) }
+    ensures kept { ChangesAmong (IsOfCommand (command_of (Some job.now))) (S.files store.old) (S.files store.new) }
+    ensures refused { is_fault result ≡ false → result ≢ Status.Done → SameFiles (S.files store.old) (S.files store.new) }
+    ensures causes { HasCauseIn (ComesTo (command_of (Some job.now)) (I.left input.old) (S.files store.old)) result }
+    ensures prints { Says (ComesTo (command_of (Some job.now)) (I.left input.old) (S.files store.old)) result
+        (K.written out.old) (K.written out.new) }
+    ensures read_cause { HasCause (I.faults input.old) (I.faults input.new) (result ≡ Status.ReadFault) }
+    ensures store_cause { HasCause (S.faults store.old) (S.faults store.new) (result ≡ Status.StoreFault) }
+    ensures print_cause { HasCause (K.faults out.old) (K.faults out.new) (result ≡ Status.SinkFault) }
+    ensures order { Yields (command_of (Some job.now)) (I.left input.old) result }
+    ensures untouched { takes_input (command_of (Some job.now)) ≡ false
+        → (I.left input.new ≡ I.left input.old) × (I.faults input.new ≡ I.faults input.old) }
+{
+    match job {
+        Job::Ardea(load) => run_load(alloc, load, input, store, out, steps),
+        Job::Ibis { dir, task } => run_task(alloc, dir, task, store, out, steps),
+        Job::Session => refuse(alloc, out, Status::Usage),
+        Job::Gen { .. } => refuse(alloc, out, Status::Usage),
     }
 }
 

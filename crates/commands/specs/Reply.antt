@@ -29,4 +29,3 @@ RepliesBy false reply status old new = (status ≡ reply.status) × Grows old ne
 -- sink had written before and after.
 abbrev pub Replies : Outcome → Status → Option (List ℕ) → Option (List ℕ) → Type 0
 Replies reply status old new = RepliesBy (is_fault status) reply status old new
-

@@ -35,9 +35,9 @@ module _ (dataset : Dataset) (per_part : ℕ) (records : List (List Cell)) (vali
       let n = part_count per_part (length records) in
       let old = map (λ (part : PartMeta). part.number) dataset.parts in
       let many : length (old ++ range_with_len dataset.next n) ≡ length dataset.parts + n =
-          length-append old (range_with_len dataset.next n)
-          ∙ (ap (λ k. k + length (range_with_len dataset.next n)) (length-map dataset.parts (λ (part : PartMeta). part.number))
-          ∙ ap (λ k. length dataset.parts + k) (length-range_with_len dataset.next n)) in
+      length-append old (range_with_len dataset.next n)
+      ∙ (ap (λ k. k + length (range_with_len dataset.next n)) (length-map dataset.parts (λ (part : PartMeta). part.number))
+      ∙ ap (λ k. length dataset.parts + k) (length-range_with_len dataset.next n)) in
       record {
         schema = valid.catalog.schema;
         next = low;
@@ -72,23 +72,23 @@ module _ (dataset : Dataset) (per_part : ℕ) (records : List (List Cell)) (vali
 
 pub files_are : (dataset : Dataset) (schema : List Column) (per_part : ℕ) (records : List (List Cell)) → dataset.schema ≡ schema
     → flat_map (part_files dataset.dir schema) (new_parts dataset.next per_part records)
-        ++ record { name = catalog_name dataset.dir; bytes = catalog_text (catalog_in (appended dataset per_part records)) } ∷ []
-      ≡ append_files dataset.dir (catalog_in dataset) per_part records
+    ++ record { name = catalog_name dataset.dir; bytes = catalog_text (catalog_in (appended dataset per_part records)) } ∷ []
+    ≡ append_files dataset.dir (catalog_in dataset) per_part records
 unfolding append_files
 files_are dataset schema per_part records same =
     ap (λ (s : List Column). flat_map (part_files dataset.dir s) (new_parts dataset.next per_part records)
-        ++ record { name = catalog_name dataset.dir; bytes = catalog_text (catalog_in (appended dataset per_part records)) } ∷ []) (sym same)
+    ++ record { name = catalog_name dataset.dir; bytes = catalog_text (catalog_in (appended dataset per_part records)) } ∷ []) (sym same)
     ∙ ap (λ (c : Catalog). flat_map (part_files dataset.dir dataset.schema) (new_parts dataset.next per_part records)
-        ++ record { name = catalog_name dataset.dir; bytes = catalog_text c } ∷ []) (grown dataset per_part records)
+    ++ record { name = catalog_name dataset.dir; bytes = catalog_text c } ∷ []) (grown dataset per_part records)
 
 pub written_are : (dataset other : Dataset) (schema : List Column) (per_part : ℕ) (records : List (List Cell)) → dataset.schema ≡ schema
     → other ≡ appended dataset per_part records
     → flat_map (part_files other.dir schema) (new_parts dataset.next per_part records)
-        ++ record { name = catalog_name other.dir; bytes = catalog_text (catalog_in other) } ∷ []
-      ≡ append_files dataset.dir (catalog_in dataset) per_part records
+    ++ record { name = catalog_name other.dir; bytes = catalog_text (catalog_in other) } ∷ []
+    ≡ append_files dataset.dir (catalog_in dataset) per_part records
 written_are dataset other schema per_part records same is =
     ap (λ (d : Dataset). flat_map (part_files d.dir schema) (new_parts dataset.next per_part records)
-        ++ record { name = catalog_name d.dir; bytes = catalog_text (catalog_in d) } ∷ []) is
+    ++ record { name = catalog_name d.dir; bytes = catalog_text (catalog_in d) } ∷ []) is
     ∙ files_are dataset schema per_part records same
 
 -- a call that succeeded
@@ -109,5 +109,5 @@ pub taken_away : (dataset : Dataset) (per_part : ℕ) (records : List (List Cell
     → without_parts (appended dataset per_part records) dataset.next count ≡ dataset
 taken_away dataset per_part records count is =
     let back = taken_back dataset.parts (map (part_data dataset.schema) (new_parts dataset.next per_part records)) count
-        (length-added dataset.schema dataset.next per_part records (part_count per_part (length records)) ∙ sym is) in
+    (length-added dataset.schema dataset.next per_part records (part_count per_part (length records)) ∙ sym is) in
     λ i. record { dir = dataset.dir; schema = dataset.schema; next = dataset.next; parts = back i }

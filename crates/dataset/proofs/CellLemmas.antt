@@ -34,7 +34,7 @@ cell_there table col first rows row within h =
     let len = length-records table first rows within in
     get_or-map (λ cells. slice_index_or cells col Null) (records_from table first rows) row [] Null (omega arith)
     ∙ ap (λ cells. slice_index_or cells col Null)
-        (get_or-take rows (drop first table.records) row [] h ∙ get_or-drop first table.records row [])
+    (get_or-take rows (drop first table.records) row [] h ∙ get_or-drop first table.records row [])
 
 -- ---- one row more
 
@@ -127,14 +127,14 @@ pub cells_fit : (table : Table) (column : Column) (col first rows : ℕ) → All
 cells_fit table column col first rows fit there =
     All-map (λ cell. CellFits cell column.ty) (λ cells. slice_index_or cells col Null) (records_from table first rows)
     (λ i d within.
-        let within_col = slice_get_within table.schema col column there in
-        let record_fits = All-take (λ cells. RecordFits cells table.schema) rows (drop first table.records)
-            (All-drop (λ cells. RecordFits cells table.schema) first table.records fit) i d within in
-        let cells = get_or (records_from table first rows) i d in
-        let len : length cells ≡ length table.schema = length-RecordFits cells table.schema record_fits in
-        let at : col < length cells = omega (arith, len, within_col) in
-        subst (λ (c : Column). CellFits (get_or cells col Null) c.ty) (slice_get_at table.schema col column there)
-            (CellFits-at cells table.schema col (get_or cells col Null) column record_fits at (get_or_default cells col Null (get_or cells col Null) at)))
+    let within_col = slice_get_within table.schema col column there in
+    let record_fits = All-take (λ cells. RecordFits cells table.schema) rows (drop first table.records)
+    (All-drop (λ cells. RecordFits cells table.schema) first table.records fit) i d within in
+    let cells = get_or (records_from table first rows) i d in
+    let len : length cells ≡ length table.schema = length-RecordFits cells table.schema record_fits in
+    let at : col < length cells = omega (arith, len, within_col) in
+    subst (λ (c : Column). CellFits (get_or cells col Null) c.ty) (slice_get_at table.schema col column there)
+    (CellFits-at cells table.schema col (get_or cells col Null) column record_fits at (get_or_default cells col Null (get_or cells col Null) at)))
 
 -- ---- words
 

@@ -61,7 +61,7 @@ columns_files-cut dir part col (suc n) (column ∷ columns) =
     let e : col + 1 + n ≡ col + suc n = omega arith in
     let files = column_files dir part.number column (column_cells col part.records) in
     ap (λ rest. files ++ rest) (columns_files-cut dir part (col + 1) n columns
-        ∙ ap (λ k. columns_files dir part (col + 1) (take n columns) ++ columns_files dir part k (drop n columns)) e)
+    ∙ ap (λ k. columns_files dir part (col + 1) (take n columns) ++ columns_files dir part k (drop n columns)) e)
     ∙ sym (append_assoc files (columns_files dir part (col + 1) (take n columns)) (columns_files dir part (col + suc n) (drop n columns)))
 
 columns_files-one : (dir : List ℕ) (part : Partition) (col n : ℕ) (columns : List Column) (column : Column) → length columns ≡ n
@@ -75,12 +75,12 @@ columns_files-one dir part col (suc n) (x ∷ columns) column len =
     let e : col + 1 + n ≡ col + suc n = omega arith in
     let files = column_files dir part.number x (column_cells col part.records) in
     ap (λ rest. files ++ rest) (columns_files-one dir part (col + 1) n columns column (omega arith)
-        ∙ ap (λ k. columns_files dir part (col + 1) columns ++ column_files dir part.number column (column_cells k part.records)) e)
+    ∙ ap (λ k. columns_files dir part (col + 1) columns ++ column_files dir part.number column (column_cells k part.records)) e)
     ∙ sym (append_assoc files (columns_files dir part (col + 1) columns) (column_files dir part.number column (column_cells (col + suc n) part.records)))
 
 pub columns_files-more : (dir : List ℕ) (part : Partition) (n : ℕ) (columns : List Column) (column : Column) → n < length columns → get_or columns n column ≡ column
     → columns_files dir part 0 (take (n + 1) columns)
-        ≡ columns_files dir part 0 (take n columns) ++ column_files dir part.number column (column_cells n part.records)
+    ≡ columns_files dir part 0 (take n columns) ++ column_files dir part.number column (column_cells n part.records)
 columns_files-more dir part n columns column h is =
     let len : length (take n columns) ≡ n = length-take n columns ∙ omega arith in
     ap (columns_files dir part 0) (take_more columns n column h ∙ ap (λ c. take n columns ++ c ∷ []) is)
@@ -94,14 +94,14 @@ pub front_of_columns : (dir : List ℕ) (part : Partition) (n : ℕ) (columns : 
     → PutsFront (columns_files dir part 0 (take n columns)) old new → PutsFront (columns_files dir part 0 columns) old new
 front_of_columns dir part n columns old new h front =
     subst (λ (files : List File). PutsFront files old new) (sym (columns_files-cut dir part 0 n columns))
-        (PutsFront-more (columns_files dir part 0 (take n columns)) (columns_files dir part (0 + n) (drop n columns)) old new front)
+    (PutsFront-more (columns_files dir part 0 (take n columns)) (columns_files dir part (0 + n) (drop n columns)) old new front)
 
 pub front_of_all : {X : Type 0} (f : X → List File) (n : ℕ) (xs : List X) (old new : Option Files)
     → PutsFront (flat_map f (take n xs)) old new → PutsFront (flat_map f xs) old new
 front_of_all f n xs old new front =
     subst (λ (files : List File). PutsFront files old new)
-        (sym (flat_map-append f (take n xs) (drop n xs)) ∙ ap (flat_map f) (take-append-drop n xs))
-        (PutsFront-more (flat_map f (take n xs)) (flat_map f (drop n xs)) old new front)
+    (sym (flat_map-append f (take n xs) (drop n xs)) ∙ ap (flat_map f) (take-append-drop n xs))
+    (PutsFront-more (flat_map f (take n xs)) (flat_map f (drop n xs)) old new front)
 
 pub all_more : {X : Type 0} (f : X → List File) (n : ℕ) (xs : List X) (d : X) → n < length xs
     → flat_map f (take (n + 1) xs) ≡ flat_map f (take n xs) ++ f (get_or xs n d)
@@ -158,12 +158,12 @@ meta_is table meta first within schema =
 
 pub part_files-is : (dir : List ℕ) (table : Table) (meta : PartMeta) (first : ℕ) → first + meta.rows ≤ length table.records → meta.schema ≡ table.schema
     → part_files dir table.schema (part_from table meta.number first meta.rows)
-        ≡ columns_files dir (part_from table meta.number first meta.rows) 0 table.schema
-            ++ record { name = part_name dir meta.number; bytes = part_text meta } ∷ []
+    ≡ columns_files dir (part_from table meta.number first meta.rows) 0 table.schema
+    ++ record { name = part_name dir meta.number; bytes = part_text meta } ∷ []
 unfolding part_files
 part_files-is dir table meta first within schema =
     ap (λ (m : PartMeta). columns_files dir (part_from table meta.number first meta.rows) 0 table.schema
-        ++ record { name = part_name dir meta.number; bytes = part_text m } ∷ []) (meta_is table meta first within schema)
+    ++ record { name = part_name dir meta.number; bytes = part_text m } ∷ []) (meta_is table meta first within schema)
 
 pub there_is : {X : Type 0} (xs : List X) (i : ℕ) (x : X) → i < length xs → x ≡ get_or xs i x → slice_get xs i ≡ Some x
 there_is [] i x h is = absurd (omega arith)
@@ -179,7 +179,7 @@ part_from_is table next per_part place meta first is at =
     let rest = drop (place * per_part) table.records in
     let rows : meta.rows ≡ min per_part (length rest) = ap (λ (m : PartMeta). m.rows) is ∙ length-take per_part rest in
     let records : records_from table first meta.rows ≡ take per_part rest =
-        ap (λ k. take meta.rows (drop k table.records)) at ∙ ap (λ k. take k rest) rows ∙ take_min per_part rest in
+    ap (λ k. take meta.rows (drop k table.records)) at ∙ ap (λ k. take k rest) rows ∙ take_min per_part rest in
     let number : meta.number ≡ next + place = ap (λ (m : PartMeta). m.number) is in
     λ i. record { number = number i; records = records i }
 

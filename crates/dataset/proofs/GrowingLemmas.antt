@@ -81,16 +81,16 @@ grown dataset per_part records =
     let old = map (λ (part : PartMeta). part.number) dataset.parts in
     let e : dataset.next + 0 ≡ dataset.next = omega arith in
     let parts = map-append (λ (part : PartMeta). part.number) dataset.parts (added dataset.schema dataset.next per_part records count)
-        ∙ ap (λ zs. old ++ zs) (added_numbers dataset.schema dataset.next per_part records 0 count ∙ ap (λ k. range_with_len k count) e) in
+    ∙ ap (λ zs. old ++ zs) (added_numbers dataset.schema dataset.next per_part records 0 count ∙ ap (λ k. range_with_len k count) e) in
     λ i. record { schema = dataset.schema; next = dataset.next + count; parts = parts i }
 
 -- ---- what every dataset keeps
 
 le_or_lt : (m n : ℕ) → (m ≤ n) ⊎ (n < m)
 le_or_lt m n = elim (nat_lt n m) as (λ b. nat_lt n m ≡ b → (m ≤ n) ⊎ (n < m)) [
-      | true ↦ λ e. inr (ltb-true n m e)
-      | false ↦ λ e. inl (ltb-false n m e)
-    ] refl
+  | true ↦ λ e. inr (ltb-true n m e)
+  | false ↦ λ e. inl (ltb-false n m e)
+] refl
 
 get_or_behind : (xs ys : List ℕ) (i : ℕ) (d : ℕ) → length xs ≤ i → get_or (xs ++ ys) i d ≡ get_or ys (i - length xs) d
 get_or_behind [] ys i d h = ap (λ k. get_or ys k d) (omega arith)
@@ -119,9 +119,9 @@ rising_behind xs next n rising below i j d before within =
     elim (le_or_lt (length xs) j) [
       | inr h ↦ rw (at_i.front (omega arith), at_j.front h) (rising i j d before h)
       | inl h ↦ elim (le_or_lt (length xs) i) [
-          | inr k ↦ let small = below i d k in rw (at_i.front k, at_j.back h all) (omega (arith, small))
-          | inl k ↦ rw (at_i.back k (omega arith), at_j.back h all) (omega arith)
-        ]
+        | inr k ↦ let small = below i d k in rw (at_i.front k, at_j.back h all) (omega (arith, small))
+        | inl k ↦ rw (at_i.back k (omega arith), at_j.back h all) (omega arith)
+      ]
     ]
 
 pub below_behind : (xs : List ℕ) (next n : ℕ) → All (λ x. x < next) xs → All (λ x. x < next + n) (xs ++ range_with_len next n)
@@ -132,4 +132,3 @@ below_behind xs next n below i d within =
       | inr h ↦ let small = below i d h in rw (at.front h) (omega (arith, small))
       | inl h ↦ rw (at.back h all) (omega arith)
     ]
-

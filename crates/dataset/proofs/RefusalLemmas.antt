@@ -44,6 +44,7 @@ no_difference (x ∷ xs) (y ∷ ys) h = by_test (no_difference xs ys) (is_same_c
     none : (o : Option ℕ) → option_map suc o ≡ None → o ≡ None
     none None e = refl
     none (Some n) e = absurd (cc)
+
     by_test : (first_difference xs ys ≡ None → xs ≡ ys) → (b : Bool) → is_same_column x y ≡ b → (x ∷ xs) ≡ (y ∷ ys)
     by_test again true e =
         let h' : option_map suc (first_difference xs ys) ≡ None = subst (λ t. cond t (option_map suc (first_difference xs ys)) (Some 1) ≡ None) e h in
@@ -138,6 +139,7 @@ more_columns xs ys len so_far within =
   where
     left : 0 < length (drop (length xs) ys)
     left = omega (arith, length-drop (length xs) ys)
+
     some_left : (zs : List Column) → 0 < length zs → first_difference [] zs ≡ Some 1
     some_left [] h = absurd (omega arith)
     some_left (z ∷ zs) h = refl

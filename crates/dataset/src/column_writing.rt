@@ -110,7 +110,13 @@ fn put_numbers<S: Store>(
     ensures reads { S.reads store.new ≡ S.reads store.old }
 {
     let column = part.column;
-    let name = file_of(alloc, part.dir, part.number, Some(&column.name), FileKind::Values)?;
+    let name = file_of(
+        alloc,
+        part.dir,
+        part.number,
+        Some(&column.name),
+        FileKind::Values,
+    )?;
     put_values(alloc, store, &name, column.ty, numbers)
 }
 
@@ -146,7 +152,13 @@ fn put_mask<S: Store, L: Ledger>(
     ensures reads { S.reads store.new ≡ S.reads store.old }
 {
     let mask = mask_of(alloc, part)?;
-    let name = file_of(alloc, part.dir, part.number, Some(&part.column.name), FileKind::Mask)?;
+    let name = file_of(
+        alloc,
+        part.dir,
+        part.number,
+        Some(&part.column.name),
+        FileKind::Mask,
+    )?;
     put_vector(alloc, store, &name, &mask, steps)
 }
 

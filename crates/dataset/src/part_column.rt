@@ -32,18 +32,18 @@ impl<'a> Model for PartColumn<'a> {
     ghost Value = { ColumnOfPart };
 
     ghost view = { λ s. record {
-        dir = s.dir.now;
-        number = s.number;
-        column = s.column.now;
-        cells = column_cells s.col (records_from s.columns.now s.first s.rows);
+      dir = s.dir.now;
+      number = s.number;
+      column = s.column.now;
+      cells = column_cells s.col (records_from s.columns.now s.first s.rows);
     } };
 
     ghost invariant = { λ s. IsCutFrom s.columns.now s.column.now s.col s.first s.rows
         × IsColumnOfPart (record {
-            dir = s.dir.now;
-            number = s.number;
-            column = s.column.now;
-            cells = column_cells s.col (records_from s.columns.now s.first s.rows);
+          dir = s.dir.now;
+          number = s.number;
+          column = s.column.now;
+          cells = column_cells s.col (records_from s.columns.now s.first s.rows);
         }) };
 }
 
@@ -63,8 +63,7 @@ impl<'a> PartColumn<'a> {
         requires column { IsSome (ends_of self.now.column.ty) }
         ensures { MatchOption result (cell_of self.now row ≡ cell.Null) (λ number. cell_of self.now row ≡ cell.Whole number) }
     {
-        self.columns
-            .whole(self.first + u64::from(row), self.col)
+        self.columns.whole(self.first + u64::from(row), self.col)
     }
 
     /// The word of a row, where the column is one of categories or texts.
@@ -73,8 +72,7 @@ impl<'a> PartColumn<'a> {
         requires column { IsNone (ends_of self.now.column.ty) }
         ensures { MatchOption result (cell_of self.now row ≡ cell.Null) (λ word. cell_of self.now row ≡ cell.Word word.now) }
     {
-        self.columns
-            .word(self.first + u64::from(row), self.col)
+        self.columns.word(self.first + u64::from(row), self.col)
     }
 
     /// Whether a row has a value.

@@ -86,7 +86,11 @@ fn expect_load<R: Abort + AllocGlobal + Count>(
     code: u8,
     printed: &'static str,
 ) -> Result<(), AllocError> {
-    expect(rt, store, &make_case(words, input.as_bytes(), code, printed))
+    expect(
+        rt,
+        store,
+        &make_case(words, input.as_bytes(), code, printed),
+    )
 }
 
 /// Runs a command that takes no input.
@@ -146,7 +150,8 @@ const WEB_LOG: &[&str] = &[
     "1",
 ];
 
-const LOG: &str = "host,code,bytes,path\nalpha,200,512,/index.html\nbeta,404,,/missing\nalpha,200,20480,\"/a,b.html\"\ngamma,500,17,/index.html\n";
+const LOG: &str =
+    "host,code,bytes,path\nalpha,200,512,/index.html\nbeta,404,,/missing\nalpha,200,20480,\"/a,b.html\"\ngamma,500,17,/index.html\n";
 
 #[test]
 fn loads_of_all_types(rt: HostRuntime) -> Result<(), Fail> {

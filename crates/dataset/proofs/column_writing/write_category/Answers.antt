@@ -20,10 +20,10 @@ returns-in_err-put_numbers-clause-files g c =
     let mask = file_in part file.Mask (spelling (map is_present part.cells)) in
     let words = file_in part file.Words (dictionary_bytes (dictionary_of part.cells)) in
     let codes : values_bytes part.column.ty c.deref.result.now ≡ values_bytes Category (map (code_of (dictionary_of part.cells)) part.cells) =
-        ap (λ ty. values_bytes ty c.deref.result.now) c.requires ∙ ap (values_bytes Category) (c.deref.ensures.value ∙ c.in_ok-codes.ensures.codes) in
+    ap (λ ty. values_bytes ty c.deref.result.now) c.requires ∙ ap (values_bytes Category) (c.deref.ensures.value ∙ c.in_ok-codes.ensures.codes) in
     PutsInOrder-err (numbers ∷ mask ∷ words ∷ []) c.from_residual-in_err-put_numbers.result _ _ c.from_residual-in_err-put_numbers.ensures.0
     (PutsFront-more (numbers ∷ []) (mask ∷ words ∷ []) _ _
-        (subst (λ (bs : List ℕ). PutsFront (file_in part file.Values bs ∷ []) old mid) codes c.in_err-put_numbers.ensures.files))
+    (subst (λ (bs : List ℕ). PutsFront (file_in part file.Values bs ∷ []) old mid) codes c.in_err-put_numbers.ensures.files))
 
 pub returns-in_err-put_mask-clause-files : goal.returns-in_err-put_mask-clause-files
 returns-in_err-put_mask-clause-files g c =
@@ -34,11 +34,11 @@ returns-in_err-put_mask-clause-files g c =
     let mask = file_in part file.Mask (spelling (map is_present part.cells)) in
     let words = file_in part file.Words (dictionary_bytes (dictionary_of part.cells)) in
     let codes : values_bytes part.column.ty c.deref.result.now ≡ values_bytes Category (map (code_of (dictionary_of part.cells)) part.cells) =
-        ap (λ ty. values_bytes ty c.deref.result.now) c.requires ∙ ap (values_bytes Category) (c.deref.ensures.value ∙ c.in_ok-codes.ensures.codes) in
+    ap (λ ty. values_bytes ty c.deref.result.now) c.requires ∙ ap (values_bytes Category) (c.deref.ensures.value ∙ c.in_ok-codes.ensures.codes) in
     PutsInOrder-err (numbers ∷ mask ∷ words ∷ []) c.from_residual-in_err-put_mask.result _ _ c.from_residual-in_err-put_mask.ensures.0
     (PutsFront-append (numbers ∷ []) (mask ∷ words ∷ []) _ _ _
-        (subst (λ (bs : List ℕ). PutsAll (file_in part file.Values bs ∷ []) old mid) codes c.in_ok-put_numbers.ensures.files)
-        (PutsFront-more (mask ∷ []) (words ∷ []) _ _ c.in_err-put_mask.ensures.files))
+    (subst (λ (bs : List ℕ). PutsAll (file_in part file.Values bs ∷ []) old mid) codes c.in_ok-put_numbers.ensures.files)
+    (PutsFront-more (mask ∷ []) (words ∷ []) _ _ c.in_err-put_mask.ensures.files))
 
 pub returns-clause-files : goal.returns-clause-files
 returns-clause-files g c =
@@ -49,10 +49,10 @@ returns-clause-files g c =
     let mask = file_in part file.Mask (spelling (map is_present part.cells)) in
     let words = file_in part file.Words (dictionary_bytes (dictionary_of part.cells)) in
     let codes : values_bytes part.column.ty c.deref.result.now ≡ values_bytes Category (map (code_of (dictionary_of part.cells)) part.cells) =
-        ap (λ ty. values_bytes ty c.deref.result.now) c.requires ∙ ap (values_bytes Category) (c.deref.ensures.value ∙ c.in_ok-codes.ensures.codes) in
+    ap (λ ty. values_bytes ty c.deref.result.now) c.requires ∙ ap (values_bytes Category) (c.deref.ensures.value ∙ c.in_ok-codes.ensures.codes) in
     PutsInOrder-then (numbers ∷ mask ∷ []) (words ∷ []) c.put_bytes.result _ _ _
-        (PutsAll-append (numbers ∷ []) (mask ∷ []) _ _ _
-            (subst (λ (bs : List ℕ). PutsAll (file_in part file.Values bs ∷ []) old mid) codes c.in_ok-put_numbers.ensures.files)
-            c.in_ok-put_mask.ensures.files)
-        (subst (λ (bs : List ℕ). PutsInOrder (file_in part file.Words bs ∷ []) c.put_bytes.result (g.S.Store.files c.put_mask.new.store) (g.S.Store.files c.put_bytes.new.store))
-            (c.deref-2.ensures.value ∙ c.in_ok-words.ensures ∙ ap dictionary_bytes c.in_ok-codes.ensures.words) c.put_bytes.ensures.files)
+    (PutsAll-append (numbers ∷ []) (mask ∷ []) _ _ _
+    (subst (λ (bs : List ℕ). PutsAll (file_in part file.Values bs ∷ []) old mid) codes c.in_ok-put_numbers.ensures.files)
+    c.in_ok-put_mask.ensures.files)
+    (subst (λ (bs : List ℕ). PutsInOrder (file_in part file.Words bs ∷ []) c.put_bytes.result (g.S.Store.files c.put_mask.new.store) (g.S.Store.files c.put_bytes.new.store))
+    (c.deref-2.ensures.value ∙ c.in_ok-words.ensures ∙ ap dictionary_bytes c.in_ok-codes.ensures.words) c.put_bytes.ensures.files)

@@ -20,10 +20,10 @@ returns-in_err-put_bytes-clause-files g c =
     let mask = file_in part file.Mask (spelling (map is_present part.cells)) in
     let starts = file_in part file.Starts (starts_bytes (starts_of (texts_of part.cells))) in
     let bytes : c.deref.result.now ≡ text_file (texts_of part.cells) =
-        c.deref.ensures.value ∙ c.finish-text.ensures.text (texts_of part.cells) c.in_ok-texts_of.ensures in
+    c.deref.ensures.value ∙ c.finish-text.ensures.text (texts_of part.cells) c.in_ok-texts_of.ensures in
     PutsInOrder-err (text ∷ mask ∷ starts ∷ []) c.from_residual-in_err-put_bytes.result _ _ c.from_residual-in_err-put_bytes.ensures.0
     (PutsFront-more (text ∷ []) (mask ∷ starts ∷ []) _ _
-        (subst (λ (bs : List ℕ). PutsFront (file_in part file.Values bs ∷ []) old mid) bytes c.in_err-put_bytes.ensures.files))
+    (subst (λ (bs : List ℕ). PutsFront (file_in part file.Values bs ∷ []) old mid) bytes c.in_err-put_bytes.ensures.files))
 
 pub returns-in_err-put_mask-clause-files : goal.returns-in_err-put_mask-clause-files
 returns-in_err-put_mask-clause-files g c =
@@ -34,11 +34,11 @@ returns-in_err-put_mask-clause-files g c =
     let mask = file_in part file.Mask (spelling (map is_present part.cells)) in
     let starts = file_in part file.Starts (starts_bytes (starts_of (texts_of part.cells))) in
     let bytes : c.deref.result.now ≡ text_file (texts_of part.cells) =
-        c.deref.ensures.value ∙ c.finish-text.ensures.text (texts_of part.cells) c.in_ok-texts_of.ensures in
+    c.deref.ensures.value ∙ c.finish-text.ensures.text (texts_of part.cells) c.in_ok-texts_of.ensures in
     PutsInOrder-err (text ∷ mask ∷ starts ∷ []) c.from_residual-in_err-put_mask.result _ _ c.from_residual-in_err-put_mask.ensures.0
     (PutsFront-append (text ∷ []) (mask ∷ starts ∷ []) _ _ _
-        (subst (λ (bs : List ℕ). PutsAll (file_in part file.Values bs ∷ []) old mid) bytes c.in_ok-put_bytes.ensures.files)
-        (PutsFront-more (mask ∷ []) (starts ∷ []) _ _ c.in_err-put_mask.ensures.files))
+    (subst (λ (bs : List ℕ). PutsAll (file_in part file.Values bs ∷ []) old mid) bytes c.in_ok-put_bytes.ensures.files)
+    (PutsFront-more (mask ∷ []) (starts ∷ []) _ _ c.in_err-put_mask.ensures.files))
 
 pub returns-clause-files : goal.returns-clause-files
 returns-clause-files g c =
@@ -49,10 +49,10 @@ returns-clause-files g c =
     let mask = file_in part file.Mask (spelling (map is_present part.cells)) in
     let starts = file_in part file.Starts (starts_bytes (starts_of (texts_of part.cells))) in
     let bytes : c.deref.result.now ≡ text_file (texts_of part.cells) =
-        c.deref.ensures.value ∙ c.finish-text.ensures.text (texts_of part.cells) c.in_ok-texts_of.ensures in
+    c.deref.ensures.value ∙ c.finish-text.ensures.text (texts_of part.cells) c.in_ok-texts_of.ensures in
     PutsInOrder-then (text ∷ mask ∷ []) (starts ∷ []) c.put_bytes-2.result _ _ _
-        (PutsAll-append (text ∷ []) (mask ∷ []) _ _ _
-            (subst (λ (bs : List ℕ). PutsAll (file_in part file.Values bs ∷ []) old mid) bytes c.in_ok-put_bytes.ensures.files)
-            c.in_ok-put_mask.ensures.files)
-        (subst (λ (bs : List ℕ). PutsInOrder (file_in part file.Starts bs ∷ []) c.put_bytes-2.result (g.S.Store.files c.put_mask.new.store) (g.S.Store.files c.put_bytes-2.new.store))
-            (c.deref-2.ensures.value ∙ c.finish-text.ensures.starts (texts_of part.cells) c.in_ok-texts_of.ensures) c.put_bytes-2.ensures.files)
+    (PutsAll-append (text ∷ []) (mask ∷ []) _ _ _
+    (subst (λ (bs : List ℕ). PutsAll (file_in part file.Values bs ∷ []) old mid) bytes c.in_ok-put_bytes.ensures.files)
+    c.in_ok-put_mask.ensures.files)
+    (subst (λ (bs : List ℕ). PutsInOrder (file_in part file.Starts bs ∷ []) c.put_bytes-2.result (g.S.Store.files c.put_mask.new.store) (g.S.Store.files c.put_bytes-2.new.store))
+    (c.deref-2.ensures.value ∙ c.finish-text.ensures.starts (texts_of part.cells) c.in_ok-texts_of.ensures) c.put_bytes-2.ensures.files)

@@ -30,12 +30,12 @@ loop-row-preserved c =
     let grown : new ≡ with_cell words cell = c.in_ok-code.ensures.words in
     let number : to_z w128 (of_z w128 c.from.result) ≡ pos code = to_z-of_z w128 c.from.result (record { sfits = c.from.type_inv }) ∙ c.from.ensures in
     let pushed : c.push.new.self.items ≡ c.loop-row.codes.items ++ pos code ∷ [] =
-        c.in_ok-push.ensures.items ∙ ap (λ (z : ℤ). c.loop-row.codes.items ++ z ∷ []) number in
+    c.in_ok-push.ensures.items ∙ ap (λ (z : ℤ). c.loop-row.codes.items ++ z ∷ []) number in
     record {
       words = grown ∙ ap (λ ws. with_cell ws cell) inv.words ∙ sym (dictionary_more (take row cells) cell) ∙ ap dictionary_of (sym seen);
       codes = pushed ∙ ap (λ (z : ℤ). c.loop-row.codes.items ++ z ∷ []) (code_is new cell code c.in_ok-code.ensures.code)
           ∙ ap (λ (front : List ℤ). front ++ code_of new cell ∷ [])
-              (inv.codes ∙ sym (codes_same words cell (take row cells) inv.coded) ∙ ap (λ ws. map (code_of ws) (take row cells)) (sym grown))
+          (inv.codes ∙ sym (codes_same words cell (take row cells) inv.coded) ∙ ap (λ ws. map (code_of ws) (take row cells)) (sym grown))
           ∙ sym (mapped_more (code_of new) cells row Null more);
       coded = subst (AllCoded new) (sym seen) (all_coded_more new (take row cells) cell code
           (subst (λ ws. AllCoded ws (take row cells)) (sym grown) (all_coded_kept words cell (take row cells) inv.coded)) c.in_ok-code.ensures.code);

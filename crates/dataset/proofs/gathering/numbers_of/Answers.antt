@@ -28,4 +28,4 @@ returns-clause-fit c =
     let all : length c.args.part.now.cells ≤ c.loop-row.row = omega (arith, c.len-rows.ensures.len) in
     let ty = c.args.part.now.column.ty in
     subst (All (λ (number : ℤ). ValueFits number ty)) (sym (c.loop-row.invariant ∙ ap (map number_of) (take_all c.loop-row.row c.args.part.now.cells all)))
-        (numbers_fit ty c.args.part.now.cells c.requires c.len-rows.ensures.fit)
+    (numbers_fit ty c.args.part.now.cells c.requires c.len-rows.ensures.fit)

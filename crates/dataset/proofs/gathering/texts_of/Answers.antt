@@ -12,8 +12,8 @@ loop-row-preserved c =
     let more : c.loop-row.row < length cells = omega (arith, c.len-row-end.ensures.len) in
     let pushed = c.in_ok-push.ensures (texts_of (take c.loop-row.row cells)) c.loop-row.invariant in
     subst (AreFilesOf c.push.new.self)
-        (ap (λ text. texts_of (take c.loop-row.row cells) ++ text ∷ []) c.text_at.ensures
-            ∙ sym (mapped_more (λ cell. unwrap_or (word_of cell) []) cells c.loop-row.row Null more)) pushed
+    (ap (λ text. texts_of (take c.loop-row.row cells) ++ text ∷ []) c.text_at.ensures
+    ∙ sym (mapped_more (λ cell. unwrap_or (word_of cell) []) cells c.loop-row.row Null more)) pushed
 
 pub returns : goal.returns
 returns c =

@@ -31,7 +31,7 @@ loop-place-preserved c =
     if_done c.add_part.result _ (sym c.is_err.ensures.value ∙ c.if-is_err.false) c.add_part.ensures.ok
     ∙ ap (λ (e : Dataset). with_parts e one) c.loop-place.invariant
     ∙ ap (λ (parts : List PartMeta). record d { parts = parts })
-        (append_assoc d.parts front one ∙ ap (λ (ps : List PartMeta). d.parts ++ ps) (sym (added_more table.schema d.next c.args.per_part table.records place)))
+    (append_assoc d.parts front one ∙ ap (λ (ps : List PartMeta). d.parts ++ ps) (sym (added_more table.schema d.next c.args.per_part table.records place)))
 
 pub returns-then-is_err-clause-err : goal.returns-then-is_err-clause-err
 returns-then-is_err-clause-err c =

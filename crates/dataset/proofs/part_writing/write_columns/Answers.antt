@@ -45,8 +45,7 @@ invariant_of-part g c =
     let within : col < length table.schema = omega (arith, len, c.loop-col-test.true) in
     let is = c.column-item.is ∙ ap (λ (xs : List Column). get_or xs col column) same in
     let there = there_is table.schema col column within is in
-    let size = length-cells table col c.args.first meta.rows c.requires.within in
-    (
+    let size = length-cells table col c.args.first meta.rows c.requires.within in (
       record { there = there; within = c.requires.within; few = c.requires.small },
       record {
         path = c.requires.path;
@@ -72,9 +71,9 @@ returns-in_err-write_column_files-clause-files g c =
     let is = c.column-item.is ∙ ap (λ (xs : List Column). get_or xs col column) same in
     PutsInOrder-err (columns_files dir part 0 table.schema) c.from_residual.result _ _ c.from_residual.ensures.0
     (front_of_columns dir part (col + 1) table.schema _ _ (omega arith)
-        (subst (λ (fs : List File). PutsFront fs (g.S.Store.files c.args.store.now) (g.S.Store.files c.write_column_files.new.store))
-            (sym (columns_files-more dir part col table.schema column within (sym is)))
-            (PutsFront-append before files _ _ _ c.loop-col.invariant.files c.in_err-write_column_files.ensures.files)))
+    (subst (λ (fs : List File). PutsFront fs (g.S.Store.files c.args.store.now) (g.S.Store.files c.write_column_files.new.store))
+    (sym (columns_files-more dir part col table.schema column within (sym is)))
+    (PutsFront-append before files _ _ _ c.loop-col.invariant.files c.in_err-write_column_files.ensures.files)))
 
 pub returns-clause-files : goal.returns-clause-files
 returns-clause-files g c =
@@ -84,4 +83,4 @@ returns-clause-files g c =
     let len = ap length (c.columns-column-items.ensures.value ∙ c.schema.ensures.value) in
     let all : length table.schema ≤ c.loop-col.col = omega (arith, len, c.loop-col-test.false) in
     subst (λ (xs : List Column). PutsAll (columns_files c.args.dir.now part 0 xs) (g.S.Store.files c.args.store.now) (g.S.Store.files c.loop-col.store))
-        (take_all c.loop-col.col table.schema all) c.loop-col.invariant.files
+    (take_all c.loop-col.col table.schema all) c.loop-col.invariant.files

@@ -17,8 +17,8 @@ returns-in_err-write_columns-clause-files g c =
     let text : List File = record { name = part_name dir meta.number; bytes = part_text meta } ∷ [] in
     PutsInOrder-err _ c.from_residual.result _ _ c.from_residual.ensures.0
     (subst (λ (fs : List File). PutsFront fs (g.S.Store.files c.args.store.now) (g.S.Store.files c.write_columns.new.store))
-        (sym (part_files-is dir table meta c.args.first c.requires.within c.requires.schema))
-        (PutsFront-more columns text _ _ c.in_err-write_columns.ensures.files))
+    (sym (part_files-is dir table meta c.args.first c.requires.within c.requires.schema))
+    (PutsFront-more columns text _ _ c.in_err-write_columns.ensures.files))
 
 pub returns-clause-files : goal.returns-clause-files
 returns-clause-files g c =
@@ -28,5 +28,5 @@ returns-clause-files g c =
     let columns = columns_files dir (part_from table meta.number c.args.first meta.rows) 0 table.schema in
     let text : List File = record { name = part_name dir meta.number; bytes = part_text meta } ∷ [] in
     subst (λ (fs : List File). PutsInOrder fs c.write_part_text.result (g.S.Store.files c.args.store.now) (g.S.Store.files c.write_part_text.new.store))
-        (sym (part_files-is dir table meta c.args.first c.requires.within c.requires.schema))
-        (PutsInOrder-then columns text c.write_part_text.result _ _ _ c.in_ok-write_columns.ensures.files c.write_part_text.ensures.files)
+    (sym (part_files-is dir table meta c.args.first c.requires.within c.requires.schema))
+    (PutsInOrder-then columns text c.write_part_text.result _ _ _ c.in_ok-write_columns.ensures.files c.write_part_text.ensures.files)

@@ -28,7 +28,7 @@ loop-place-preserved g c =
     record {
       files = subst (λ (fs : List File). PutsAll fs (g.S.Store.files c.args.store.now) (g.S.Store.files c.write_part.new.store)) (sym more)
           (PutsAll-append (flat_map one (take place parts)) (one (new_part c.args.next c.args.per_part table.records place)) _ _ _ c.loop-place.invariant.files
-              (subst (λ (p : Partition). PutsAll (one p) (g.S.Store.files c.loop-place.store) (g.S.Store.files c.write_part.new.store)) is c.in_ok-write_part.ensures.files));
+          (subst (λ (p : Partition). PutsAll (one p) (g.S.Store.files c.loop-place.store) (g.S.Store.files c.write_part.new.store)) is c.in_ok-write_part.ensures.files));
       reads = c.in_ok-write_part.ensures.reads ∙ c.loop-place.invariant.reads;
       cause = c.in_ok-write_part.ensures.cause.told (λ e. absurd (cc)) ∙ c.loop-place.invariant.cause;
     }
@@ -55,9 +55,9 @@ returns-in_err-write_part-clause-files g c =
     let more = parts_more one c.args.next c.args.per_part place table.records there in
     PutsInOrder-err (flat_map one parts) c.from_residual-in_err-write_part.result _ _ c.from_residual-in_err-write_part.ensures.0
     (front_of_all one (place + 1) parts _ _
-        (subst (λ (fs : List File). PutsFront fs (g.S.Store.files c.args.store.now) (g.S.Store.files c.write_part.new.store)) (sym more)
-            (PutsFront-append (flat_map one (take place parts)) (one (new_part c.args.next c.args.per_part table.records place)) _ _ _ c.loop-place.invariant.files
-                (subst (λ (p : Partition). PutsFront (one p) (g.S.Store.files c.loop-place.store) (g.S.Store.files c.write_part.new.store)) is c.in_err-write_part.ensures.files))))
+    (subst (λ (fs : List File). PutsFront fs (g.S.Store.files c.args.store.now) (g.S.Store.files c.write_part.new.store)) (sym more)
+    (PutsFront-append (flat_map one (take place parts)) (one (new_part c.args.next c.args.per_part table.records place)) _ _ _ c.loop-place.invariant.files
+    (subst (λ (p : Partition). PutsFront (one p) (g.S.Store.files c.loop-place.store) (g.S.Store.files c.write_part.new.store)) is c.in_err-write_part.ensures.files))))
 
 pub returns-clause-files : goal.returns-clause-files
 returns-clause-files g c =
@@ -66,4 +66,4 @@ returns-clause-files g c =
     let len = length-new_parts c.args.next c.args.per_part c.args.columns.now.records in
     let all : length parts ≤ c.loop-place.place = omega (arith, counted, len, c.loop-place-test.false) in
     subst (λ (ps : List Partition). PutsAll (flat_map (part_files c.args.dir.now c.args.columns.now.schema) ps) (g.S.Store.files c.args.store.now) (g.S.Store.files c.loop-place.store))
-        (take_all c.loop-place.place parts all) c.loop-place.invariant.files
+    (take_all c.loop-place.place parts all) c.loop-place.invariant.files

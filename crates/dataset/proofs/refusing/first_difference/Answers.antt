@@ -18,7 +18,7 @@ loop-col-preserved c =
 pub returns-then-not-is_at : goal.returns-then-not-is_at
 returns-then-not-is_at c =
     sym (differs_at c.args.ours.now c.args.given.now c.loop-col.col c.index-ours-col.result c.loop-col-test.true c.index-ours-col.is
-        (sym c.is_at.ensures ∙ c.if-not-is_at.true) c.loop-col.invariant.so_far)
+    (sym c.is_at.ensures ∙ c.if-not-is_at.true) c.loop-col.invariant.so_far)
 
 pub returns-else-ours-given : goal.returns-else-ours-given
 returns-else-ours-given c =

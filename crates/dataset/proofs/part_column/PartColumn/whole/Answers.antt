@@ -21,5 +21,5 @@ returns c =
     let same : length c.args.self.now.cells ≡ s.rows = ap (λ p. length p.cells) (sym c.self.view_is) ∙ len in
     let there = cell_there s.columns.now s.col s.first s.rows c.args.row c.self.invariant.0.within (omega arith) in
     let is : cell_at s.columns.now (s.first + c.from.result) s.col ≡ cell_of c.args.self.now c.args.row =
-        ap (λ r. cell_at s.columns.now (s.first + r) s.col) c.from.ensures ∙ sym there ∙ ap (λ p. cell_of p c.args.row) c.self.view_is in
+    ap (λ r. cell_at s.columns.now (s.first + r) s.col) c.from.ensures ∙ sym there ∙ ap (λ p. cell_of p c.args.row) c.self.view_is in
     subst (λ (cell : Cell). MatchOption c.whole.result (cell ≡ Null) (λ (number : ℤ). cell ≡ Whole number)) is c.whole.ensures

@@ -1,5 +1,5 @@
 -- Bins and places, and their bytes, both ways.
-use Rattle.std.proofs.Common.{◌≡◌, ℕ, ℤ, zero, suc, ◌+◌, ◌*◌, ◌^◌, ◌<◌, ◌≤◌, List, [], ◌∷◌, ◌++◌, length, map, take, drop, take-append-drop, refl, sym, ap, subst, ◌∙◌, arith, length-append, length-drop, append_assoc, append-nil}
+use Rattle.std.proofs.Common.{◌≡◌, ℕ, ℤ, zero, suc, ◌*◌, ◌^◌, ◌<◌, List, [], ◌∷◌, ◌++◌, length, take, drop, take-append-drop, refl, sym, ap, ◌∙◌, arith, length-append, length-drop, append-nil}
 use mir.Syntax.{w64, w128}
 use mir.Val.{SFits}
 use Rattle.std.specs.Int.{to_le_bytes, from_le_bytes}

@@ -1,5 +1,5 @@
 -- The first bytes of an index file that says its sizes are spelled so.
-use Rattle.std.proofs.Common.{◌≡◌, ℕ, ◌+◌, ◌-◌, ◌^◌, ◌<◌, ◌≤◌, Bool, true, false, cond, List, [], ◌∷◌, ◌++◌, length, get_or, take, drop, take-append-drop, Result, Ok, Err, IfOk, bytes_eq, nat_lt, ◌==◌, refl, sym, ap, ◌∙◌, arith, append-nil, length-drop}
+use Rattle.std.proofs.Common.{◌≡◌, ℕ, ◌+◌, ◌≤◌, Bool, true, false, cond, List, [], ◌++◌, length, take, drop, take-append-drop, Result, Ok, Err, IfOk, bytes_eq, nat_lt, ◌==◌, refl, sym, ap, ◌∙◌, arith, append-nil, length-drop}
 use mir.Syntax.{w32}
 use Rattle.std.specs.Int.{to_le_bytes, from_le_bytes}
 use Rattle.std.proofs.lemmas.Bool.{eqb-true, ltb-false}

@@ -1,5 +1,5 @@
 -- Numbers of a fixed width and their bytes, both ways.
-use Rattle.std.proofs.Common.{◌≡◌, ℕ, ℤ, pos, zero, suc, ◌+◌, ◌-◌, ◌*◌, ◌/◌, ◌%◌, ◌^◌, ◌<◌, ◌≤◌, inl, inr, List, [], ◌∷◌, ◌++◌, length, get_or, take, drop, take-append-drop, length-take, lit<, refl, sym, ap, subst, ◌∙◌, arith, append-nil}
+use Rattle.std.proofs.Common.{◌≡◌, ℕ, ℤ, pos, zero, suc, ◌+◌, ◌*◌, ◌/◌, ◌%◌, ◌^◌, ◌<◌, ◌≤◌, inl, inr, List, [], ◌∷◌, ◌++◌, length, get_or, take, drop, take-append-drop, length-take, lit<, refl, sym, ap, ◌∙◌, arith, append-nil}
 use lib.IntN.{negsuc}
 use mir.Syntax.{Width, w32, w64, w128}
 use mir.Val.{SFits, of_z, to_z, bits}
@@ -7,10 +7,10 @@ use Rattle.std.specs.Int.{to_le_bytes, from_le_bytes, byte_at, bytes_low_first}
 use Rattle.std.proofs.Math.Nat.{div-div-eq-div-mul, pow-suc}
 use Rattle.std.proofs.Math.Seq.{take-append_seam, drop-append_seam}
 use Rattle.std.proofs.lemmas.Bool.{cases_lt}
-use Rattle.std.proofs.lemmas.Int.{ints, to_z-of_z, of_z-to_z}
+use Rattle.std.proofs.lemmas.Int.{to_z-of_z, of_z-to_z}
 use Rattle.std.proofs.lemmas.List.{get_or-drop, get_or-take, get_or_past, length-take-le}
 use Rattle.byteorder.specs.Endian.{little_from}
-use Rattle.byteorder.specs.Numbers.{little_from-cons, little_number-reads_back, little_from-lt, length-bytes_low_first}
+use Rattle.byteorder.specs.Numbers.{little_from-cons, little_number-reads_back, little_from-lt}
 
 abbrev pub AreBytes : List ℕ → Type 0
 AreBytes bytes = (i : ℕ) → get_or bytes i 0 < 256

@@ -1,5 +1,5 @@
 -- What was opened, over files that are told.
-use Rattle.std.proofs.Common.{◌≡◌, ℕ, zero, suc, ◌+◌, ◌-◌, ◌*◌, ◌≤◌, inl, inr, Bool, true, false, cond, List, [], ◌∷◌, ◌++◌, length, get_or, take, drop, Option, Some, None, IfSome, option_map, unwrap_or, Result, Ok, Err, bytes_eq, nat_lt, ◌==◌, refl, sym, ap, subst, ◌∙◌, arith}
+use Rattle.std.proofs.Common.{◌≡◌, ℕ, zero, suc, ◌+◌, ◌-◌, ◌≤◌, inl, inr, Bool, true, false, cond, List, [], ◌∷◌, ◌++◌, length, get_or, take, drop, Option, Some, None, IfSome, option_map, unwrap_or, Result, Ok, Err, bytes_eq, nat_lt, ◌==◌, refl, sym, ap, subst, ◌∙◌, arith}
 use Rattle.std.proofs.Math.Seq.{take-nil}
 use Rattle.index_spec.specs.Printed.{printed}
 use Rattle.index_spec.specs.declared.spec.Spec.{Spec}
@@ -9,7 +9,7 @@ use Rattle.fb_outside.proofs.ReadLemmas.{AddsOnly-read, AddsOnly-trans}
 use Rattle.index_file.specs.Front.{front_in, number_at, of_rows, of_version, rest_size, size_of, sizes_at}
 use Rattle.index_file.specs.IndexFile.{front_bytes, head_bytes, magic, parts_bytes}
 use Rattle.index_file.specs.declared.edge.Edge.{Edge}
-use Rattle.index_file.specs.Opening.{EndsBy, HasSizes, Head, IsAnswer, IsHeadLook, front_look, head_in, index_in, rest_look, some_head, with_front}
+use Rattle.index_file.specs.Opening.{EndsBy, HasSizes, Head, IsAnswer, IsHeadLook, front_look, index_in, rest_look, some_head, with_front}
 use Rattle.index_file.specs.Places.{first_wrong_place, head_size, last_place}
 use Rattle.index_file.proofs.PlacesLemmas.{places_right}
 use Rattle.index_file.specs.declared.front.Front.{Front}

@@ -1,5 +1,5 @@
 -- Bins are in order exactly where none is out of order.
-use Rattle.std.proofs.Common.{◌≡◌, ℕ, suc, Bool, true, false, not, ◌||◌, cond, List, [], ◌∷◌, ℤ, ◌≤ℤ◌, ◌<ℤ◌, int_lt, Option, Some, None, option_map, refl, ap, ◌∙◌, arith}
+use Rattle.std.proofs.Common.{◌≡◌, suc, Bool, true, false, not, ◌||◌, cond, List, [], ◌∷◌, ℤ, ◌≤ℤ◌, ◌<ℤ◌, int_lt, Some, None, option_map, refl, ap, ◌∙◌, arith}
 use Rattle.std.proofs.lemmas.Int.{ints}
 use Rattle.index_file.specs.Order.{AreAbove, AreInOrder, first_misplaced, first_out_of_order, is_misplaced, is_turned}
 use Rattle.index_file.specs.declared.edge.Edge.{Edge}

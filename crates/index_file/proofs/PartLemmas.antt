@@ -1,5 +1,5 @@
 -- The parts of a head.
-use Rattle.std.proofs.Common.{◌≡◌, ℕ, List, ◌++◌, take, drop, take-append-drop, append_assoc, refl, sym, ap, ◌∙◌}
+use Rattle.std.proofs.Common.{◌≡◌, ℕ, List, ◌++◌, take, drop, take-append-drop, append_assoc, sym, ap, ◌∙◌}
 use Rattle.std.specs.Int.{w32, to_le_bytes}
 use Rattle.index_file.specs.IndexFile.{edges_bytes, front_bytes, magic, parts_bytes, places_bytes}
 use Rattle.index_file.specs.declared.edge.Edge.{Edge}

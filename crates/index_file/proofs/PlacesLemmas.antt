@@ -1,5 +1,5 @@
 -- Where the bitmaps of an index file stand.
-use Rattle.std.proofs.Common.{◌≡◌, ℕ, zero, suc, ◌+◌, ◌-◌, ◌*◌, ◌<◌, ◌≤◌, ◌==◌, Bool, true, false, cond, List, [], ◌∷◌, ◌++◌, length, get_or, take, drop, Option, Some, None, option_map, nat_lt, refl, sym, ap, subst, ◌∙◌, arith, sum_by, length-append, append_assoc, append-nil}
+use Rattle.std.proofs.Common.{◌≡◌, ℕ, zero, suc, ◌+◌, ◌-◌, ◌*◌, ◌<◌, ◌≤◌, ◌==◌, Bool, true, false, cond, List, [], ◌∷◌, ◌++◌, length, get_or, take, Option, Some, None, option_map, nat_lt, refl, sym, ap, subst, ◌∙◌, arith, sum_by, length-append, append_assoc, append-nil}
 use Rattle.std.specs.List.{flat_map}
 use Rattle.std.proofs.Math.Seq.{take-suc}
 use Rattle.std.proofs.lemmas.Bool.{eqb-true, ltb-false}
@@ -9,7 +9,7 @@ use Rattle.wah_words.specs.Limits.{most_bits}
 use Rattle.wah_words.specs.Spelling.{words_of}
 use Rattle.wah_words.proofs.BytesLemmas.{length-spelling}
 use Rattle.wah_words.proofs.SpellingLemmas.{words_of_le}
-use Rattle.index_file.specs.Places.{ArePlaced, first_close, first_wrong_place, last_from, last_place, or_else, places_from}
+use Rattle.index_file.specs.Places.{ArePlaced, first_close, first_wrong_place, last_from, or_else, places_from}
 
 -- ---- bytes of one element more
 

@@ -1,34 +1,32 @@
 -- What is written is opened and fetched.
-use Rattle.std.proofs.Common.{◌≡◌, ◌≢◌, ℕ, zero, suc, ◌+◌, ◌-◌, ◌*◌, ◌^◌, ◌<◌, ◌≤◌, Bool, true, false, cond, List, [], ◌∷◌, ◌++◌, length, get_or, take, drop, Option, Some, None, option_map, Result, Ok, Err, bytes_eq, nat_lt, ◌==◌, refl, sym, ap, subst, ◌∙◌, arith, eq-eqb, length-append, append_assoc, append-nil}
-use mir.Syntax.{w32, w64}
+use Rattle.std.proofs.Common.{◌≡◌, ℕ, zero, suc, ◌+◌, ◌-◌, ◌*◌, ◌^◌, ◌<◌, ◌≤◌, Bool, true, false, cond, List, [], ◌∷◌, ◌++◌, length, get_or, take, drop, Option, Some, None, option_map, Ok, Err, nat_lt, ◌==◌, refl, sym, ap, ◌∙◌, arith, eq-eqb, length-append, append_assoc, append-nil}
+use mir.Syntax.{w32}
 use Rattle.std.specs.Prelude.{slice_get}
 use Rattle.std.specs.Int.{div_ceil, to_le_bytes, from_le_bytes}
 use Rattle.std.specs.List.{AllByRecursion, flat_map}
-use Rattle.std.proofs.Math.Seq.{take-append_seam, drop-append_seam, take-append-add}
+use Rattle.std.proofs.Math.Seq.{take-append_seam, drop-append_seam}
 use Rattle.std.proofs.lemmas.Bool.{eqb-true, le-ltb, ltb-false}
 use Rattle.index_spec.specs.Counts.{bitmap_count, coarse_count, groups_of}
 use Rattle.index_spec.specs.declared.spec.Coarse.{Coarse}
 use Rattle.index_spec.specs.declared.spec.Coarse.TheVariants as coarse
 use Rattle.index_spec.specs.declared.spec.EncodingSpec.{EncodingSpec}
 use Rattle.index_spec.specs.declared.spec.EncodingSpec.TheVariants as encoding
-use Rattle.index_spec.specs.Language.{IsGiven, spec_of}
+use Rattle.index_spec.specs.Language.{spec_of}
 use Rattle.index_spec.specs.Printed.{printed}
 use Rattle.index_spec.specs.declared.spec.Spec.{Spec}
 use Rattle.index_spec.proofs.Laws.{spec_of-spelled}
 use Rattle.index_spec.proofs.Again.{printed-spelled, length-printed}
 use Rattle.wah_words.specs.Bytes.{spelling, vector_at}
-use Rattle.wah_words.specs.Spelling.{words_of}
 use Rattle.wah_words.proofs.BytesLemmas.{length-spelling, vector_again}
 use Rattle.wah_words.specs.declared.fault.WordsFault.TheVariants.{Short as short}
-use Rattle.index_file.specs.Fetching.{bitmap_in, room_in, to_its_end, with_bytes}
-use Rattle.index_file.specs.Front.{front_in, number_at, of_rows, of_version, rest_size, size_of, sizes_at}
+use Rattle.index_file.specs.Fetching.{bitmap_in, to_its_end, with_bytes}
+use Rattle.index_file.specs.Front.{front_in, number_at, of_rows, rest_size, size_of, sizes_at}
 use Rattle.index_file.specs.IndexFile.{EdgeFits, IsIndex, edges_bytes, front_bytes, head_bytes, index_bytes, magic, parts_bytes, places_bytes, places_of}
-use Rattle.index_file.specs.Opening.{Head, bins_in, counted, edges_at, head_in, ordered, parts_in, placed, places_at, places_in, rest_in, spec_in, tested, with_bins, with_front, with_places, with_rest, with_spec}
+use Rattle.index_file.specs.Opening.{Head, bins_in, counted, head_in, ordered, parts_in, placed, places_at, places_in, rest_in, spec_in, tested, with_bins, with_front, with_places, with_rest, with_spec}
 use Rattle.index_file.specs.Order.{first_out_of_order}
-use Rattle.index_file.specs.Places.{first_close, first_wrong_place, head_size, last_from, last_place, or_else, places_from, room_at}
+use Rattle.index_file.specs.Places.{first_close, first_wrong_place, head_size, last_from, or_else, places_from, room_at}
 use Rattle.index_file.specs.declared.edge.Edge.{Edge}
 use Rattle.index_file.specs.declared.front.Front.{Front}
-use Rattle.index_file.specs.declared.fault.IndexFault.{IndexFault}
 use Rattle.index_file.specs.declared.fault.IndexFault.TheVariants as fault
 use Rattle.index_file.proofs.EdgeLemmas.{edges_again, length-edges_bytes, length-places_bytes, places_again}
 use Rattle.index_file.proofs.NumberLemmas.{number_front, wide_32}

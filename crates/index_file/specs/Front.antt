@@ -1,5 +1,5 @@
 -- What the first 24 bytes of an index file say.
-use Rattle.std.specs.Prelude.{◌==◌, ◌-◌, not, ℕ, List, length, take, drop, Result, Ok, Err, nat_lt, bytes_eq, if◌then◌else◌}
+use Rattle.std.specs.Prelude.{◌==◌, ◌-◌, ℕ, List, length, take, drop, Result, Ok, Err, nat_lt, bytes_eq, if◌then◌else◌}
 use Rattle.std.specs.Int.{w32, from_le_bytes}
 use Rattle.index_file.specs.IndexFile.{magic}
 use Rattle.index_file.specs.Places.{head_size}

@@ -1,5 +1,5 @@
 -- The bytes of an index file: a head, and the bitmaps behind it. Numbers stand with the lowest byte first.
-use Rattle.std.specs.Prelude.{◌≡◌, ◌+◌, ◌-◌, ◌*◌, ◌^◌, ◌<◌, ◌≤◌, ℕ, ℤ, Bool, List, [], ◌∷◌, ◌++◌, None, Some, length, FitsSigned}
+use Rattle.std.specs.Prelude.{◌≡◌, ◌-◌, ◌^◌, ◌<◌, ℕ, ℤ, Bool, List, [], ◌∷◌, ◌++◌, None, Some, length, FitsSigned}
 use Rattle.std.specs.Int.{w32, w64, w128, to_le_bytes, cast_unsigned}
 use Rattle.std.specs.List.{AllByRecursion, flat_map}
 use Rattle.index_spec.specs.Counts.{bitmap_count}

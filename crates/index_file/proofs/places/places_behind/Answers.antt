@@ -1,4 +1,4 @@
-use Rattle.std.proofs.Common.{◌≡◌, ◌+◌, ◌*◌, ◌<◌, ◌∷◌, [], ◌++◌, take, ap, sym, ◌∙◌, arith}
+use Rattle.std.proofs.Common.{◌≡◌, ◌+◌, ◌*◌, ◌∷◌, [], ◌++◌, take, ap, ◌∙◌, arith}
 use Rattle.wah_words.specs.Spelling.{words_of}
 use Rattle.index_file.specs.Places.{places_from}
 use Rattle.index_file.proofs.PlacesLemmas.{few_words, places_pushed}

@@ -6,6 +6,8 @@ mod listing;
 mod opening;
 mod query;
 mod rows;
+#[cfg(test)]
+mod tests;
 
 pub use counting::count;
 pub use listing::list;

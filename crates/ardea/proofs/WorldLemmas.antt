@@ -13,7 +13,7 @@ use Rattle.fb_types.specs.Schemas.{IsSchema}
 use Rattle.fb_types.specs.Table.{Table}
 use Rattle.csv_load.specs.Loaded.{loaded}
 use Rattle.command_words.specs.declared.Load.{Load}
-use Rattle.command_words.specs.Valid.{EndsInCsv, IsValidLoad}
+use Rattle.command_words.specs.Valid.{IsCsvPath, IsValidLoad}
 use Rattle.part_meta.specs.declared.catalog.Catalog.{Catalog}
 use Rattle.part_meta.specs.FileNames.{IsFileOf}
 use Rattle.world.specs.World.{Content, World, content_at}
@@ -46,12 +46,12 @@ found_is m w dir (Broken damage) stands path h = absurd (sound m w dir damage st
 abbrev pub inputs_of : World → List ℕ → Reading
 inputs_of w name = reading_of (get w.inputs name)
 
-same_text : (load : Load) (input : List ℕ) (readings : List ℕ → Reading) (m : Files) (w : World) → Stands m w → IfSome load.file EndsInCsv
+same_text : (load : Load) (input : List ℕ) (readings : List ℕ → Reading) (m : Files) (w : World) → Stands m w → IfSome load.file IsCsvPath
     → ((name : List ℕ) → readings name ≡ reading_of (file_at m name))
     → text_or_refusal load.file input readings ≡ text_or_refusal load.file input (inputs_of w)
 same_text load input readings m w stands csv told = by load.file csv
   where
-    by : (file : Option (List ℕ)) → IfSome file EndsInCsv → text_or_refusal file input readings ≡ text_or_refusal file input (inputs_of w)
+    by : (file : Option (List ℕ)) → IfSome file IsCsvPath → text_or_refusal file input readings ≡ text_or_refusal file input (inputs_of w)
     by None h = refl
     by (Some name) h =
         let same : readings name ≡ inputs_of w name = told name ∙ ap reading_of (stands.inputs name (record { stem = h.stem; is = h.is })) in
@@ -76,7 +76,7 @@ result_in_world load left m w result valid stands g = by (load_table load g.situ
   where
     same : load_table load g.situation.input g.situation.readings ≡ load_table load g.situation.input (inputs_of w)
     same =
-        table_is load g.situation.input g.situation.readings ∙ ap (table_by load) (same_text load g.situation.input g.situation.readings m w stands valid.csv g.situation.readings_told)
+        table_is load g.situation.input g.situation.readings ∙ ap (table_by load) (same_text load g.situation.input g.situation.readings m w stands valid.file g.situation.readings_told)
         ∙ sym (table_is load g.situation.input (inputs_of w))
 
     by : (r : Result Table Status) → load_table load g.situation.input g.situation.readings ≡ r

@@ -18,7 +18,8 @@ use Rattle.where_grammar.specs.declared.clause.ClauseFault.TheVariants as text_
 use Rattle.where_grammar.specs.declared.clause.Op.TheVariants.{Less}
 use Rattle.where_grammar.specs.declared.clause.QueryKind.{QueryKind}
 use Rattle.where_grammar.specs.Holds.{compares, holds, number_passes}
-use Rattle.where_grammar.specs.Language.{Gives}
+use Rattle.answers.specs.Answers.{Answers}
+use Rattle.where_grammar.specs.Language.{refusal}
 use Rattle.where_grammar.proofs.Parts.{holds-one}
 use Rattle.world.specs.PartFiles.{column_cells, part_data}
 use Rattle.world.specs.Stands.{Stands, StandsFor}
@@ -74,7 +75,7 @@ comes_refused : (dir query : List ℕ) (files : Option Files) (found : Found) (s
 comes_refused dir query files found status told e =
     record { found = found; told = told; counts = subst (λ (r : Result Below Status). CountsBy files found r (Err status)) (sym e) refl }
 
-pub text_stops : (dir query text : List ℕ) (files : Option Files) (fault : ClauseFault) → text ≡ query → Gives {A = Below} (Err fault) (read_query text)
+pub text_stops : (dir query text : List ℕ) (files : Option Files) (fault : ClauseFault) → text ≡ query → Answers {T = Below} refusal (Err fault) (read_query text)
     → CountGives dir query files (Err (stop_of_text fault))
 text_stops dir query text files (text_.Bad kind) same h =
     let bad : read_query query ≡ Err kind = subst (λ (t : List ℕ). read_query t ≡ Err kind) same h in

@@ -4,7 +4,8 @@ ghost use Rattle.std.specs.Prelude.{◌≡◌, Ok, IsSome, is_some};
 ghost use Rattle.std.specs.Option.{option_copied};
 ghost use Rattle.fb_types.specs.Schemas.{place_of};
 ghost use Rattle.fb_types.specs.Types.{ends_of};
-ghost use Rattle.where_grammar.specs.Language.{Gives};
+ghost use Rattle.answers.specs.Answers.{Answers};
+ghost use Rattle.where_grammar.specs.Language.{refusal};
 ghost use Rattle.ibis.specs.Query.{asked, column_in, less_than, read_query};
 ghost use Rattle.ibis.specs.Steps.{Resolves, asked_as, stop_of_text};
 
@@ -55,7 +56,7 @@ fn asked_of(clause: Clause) -> Option<Below>
 
 /// What the query's text asks.
 pub(crate) fn below_of(alloc: Global, text: &str) -> Result<Below, ClauseFault>
-    ensures { Gives result (read_query text.now) }
+    ensures { Answers refusal result (read_query text.now) }
 {
     let Some(rest) = after_where(text) else {
         return Err(syntax());

@@ -7,9 +7,9 @@ use super::*;
 use index_spec::Binning;
 use std::alloc::{AllocError, Global};
 use std::marker::Brand;
-use std::sync::ledger::{Blank, Ledger};
+use std::sync::ledger::Ledger;
 use std::test::Fail;
-use steps::Steps;
+use steps::{Blank, Count, Steps};
 use wah_iter::ones;
 use wah_words::{Builder, Wah};
 
@@ -74,14 +74,12 @@ fn bins_are_made(rt: HostRuntime) -> Result<(), Fail> {
     let alloc = rt.alloc();
     let values = [1, 2, 3, 4, 5, 6, 7, 8, 9, 10];
     let weight = Binning::Weight { count: 3 };
-    let found = numbers_of_bins::<Brand>(Blank::new(1), alloc, &weight, &values)?.ok_or(
-        "too many",
-    )?;
+    let found = numbers_of_bins::<Brand>(rt.blank(), alloc, &weight, &values)?.ok_or("too many")?;
     let wanted = [1, 3, 0, 1, 2, 4, 6, 3, 4, 5, 7, 10, 6, 7, 8, 9];
     assert_eq!(rt; found.as_slice(), wanted.as_slice());
     let precision = Binning::Precision { digits: 1 };
     let values = [7, 12, 19, 20, -15];
-    let found = numbers_of_bins::<Brand>(Blank::new(1), alloc, &precision, &values)?.ok_or(
+    let found = numbers_of_bins::<Brand>(rt.blank(), alloc, &precision, &values)?.ok_or(
         "too many",
     )?;
     let wanted = [-15, -15, 4, 7, 7, 0, 12, 19, 1, 2, 20, 20, 3];
@@ -98,7 +96,7 @@ fn widths_are_cut(rt: HostRuntime) -> Result<(), Fail> {
         count: 4,
     };
     let values = [-1, 0, 1, 2, 4, 5, 6, 7, 9, 10, 11];
-    let found = numbers_of_bins::<Brand>(Blank::new(1), alloc, &width, &values)?.ok_or("too many")?;
+    let found = numbers_of_bins::<Brand>(rt.blank(), alloc, &width, &values)?.ok_or("too many")?;
     let wanted = [
         -1, -1, 0, 0, 1, 1, 2, 2, 4, 3, 4, 5, 6, 5, 6, 7, 9, 7, 8, 10, 11, 9, 10,
     ];

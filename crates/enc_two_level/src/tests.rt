@@ -8,9 +8,9 @@ use binning::{Bin, EncFault, Encoding};
 use index_spec::{Coarse, EncodingSpec};
 use std::alloc::{AllocError, Global};
 use std::marker::Brand;
-use std::sync::ledger::{Blank, Ledger};
+use std::sync::ledger::Ledger;
 use std::test::Fail;
-use steps::Steps;
+use steps::{Blank, Count, Steps};
 use wah_words::{Builder, Wah};
 
 /// How many rows the column has.
@@ -210,21 +210,21 @@ fn too_many<L: Ledger>(
 #[test]
 fn runs_are_the_unions_of_their_bins_by_equality(rt: HostRuntime) -> Result<(), Fail> {
     let alloc = rt.alloc();
-    assert!(rt; all_agree::<Brand>(Blank::new(1), alloc, EncodingSpec::Equality)?);
+    assert!(rt; all_agree::<Brand>(rt.blank(), alloc, EncodingSpec::Equality)?);
     Ok(())
 }
 
 #[test]
 fn runs_are_the_unions_of_their_bins_by_range(rt: HostRuntime) -> Result<(), Fail> {
     let alloc = rt.alloc();
-    assert!(rt; all_agree::<Brand>(Blank::new(1), alloc, EncodingSpec::Range)?);
+    assert!(rt; all_agree::<Brand>(rt.blank(), alloc, EncodingSpec::Range)?);
     Ok(())
 }
 
 #[test]
 fn runs_are_the_unions_of_their_bins_by_interval(rt: HostRuntime) -> Result<(), Fail> {
     let alloc = rt.alloc();
-    assert!(rt; all_agree::<Brand>(Blank::new(1), alloc, EncodingSpec::Interval)?);
+    assert!(rt; all_agree::<Brand>(rt.blank(), alloc, EncodingSpec::Interval)?);
     Ok(())
 }
 
@@ -247,10 +247,10 @@ fn runs_are_the_unions_of_their_bins_by_two_levels(rt: HostRuntime) -> Result<()
         coarse: Coarse::Equality,
         ncoarse: 1,
     };
-    assert!(rt; all_agree::<Brand>(Blank::new(1), alloc, equality)?);
-    assert!(rt; all_agree::<Brand>(Blank::new(1), alloc, range)?);
-    assert!(rt; all_agree::<Brand>(Blank::new(1), alloc, interval)?);
-    assert!(rt; all_agree::<Brand>(Blank::new(1), alloc, one)?);
+    assert!(rt; all_agree::<Brand>(rt.blank(), alloc, equality)?);
+    assert!(rt; all_agree::<Brand>(rt.blank(), alloc, range)?);
+    assert!(rt; all_agree::<Brand>(rt.blank(), alloc, interval)?);
+    assert!(rt; all_agree::<Brand>(rt.blank(), alloc, one)?);
     Ok(())
 }
 
@@ -280,15 +280,15 @@ fn one_of_three_bins_needs_these(rt: HostRuntime) -> Result<(), Fail> {
 fn over_1024_bins_are_too_many(rt: HostRuntime) -> Result<(), Fail> {
     let alloc = rt.alloc();
     assert_eq!(rt;
-        too_many::<Brand>(Blank::new(1), alloc, EncodingSpec::Range, 1025)?,
+        too_many::<Brand>(rt.blank(), alloc, EncodingSpec::Range, 1025)?,
         (1025, 1024)
     );
     assert_eq!(rt;
-        too_many::<Brand>(Blank::new(1), alloc, EncodingSpec::Interval, 1025)?,
+        too_many::<Brand>(rt.blank(), alloc, EncodingSpec::Interval, 1025)?,
         (1025, 1024)
     );
     assert_eq!(rt;
-        too_many::<Brand>(Blank::new(1), alloc, EncodingSpec::Equality, 1025)?,
+        too_many::<Brand>(rt.blank(), alloc, EncodingSpec::Equality, 1025)?,
         (0, 0)
     );
     Ok(())

@@ -84,9 +84,9 @@ fn reads_and_prints_clauses(rt: HostRuntime) -> Result<(), Fail> {
         ("a between 1 and 5 and b=2", "a between 1 and 5 and b = 2"),
     ] {
         let found = told(rt.alloc(), text)?;
-        assert!(rt; found.as_str() == want, "{text}");
+        assert!(rt; found.as_str() == want);
         let again = told(rt.alloc(), want)?;
-        assert!(rt; again.as_str() == want, "{want}");
+        assert!(rt; again.as_str() == want);
     }
     Ok(())
 }
@@ -186,7 +186,7 @@ fn limits_are_kept_and_passed(rt: HostRuntime) -> Result<(), Fail> {
     ] {
         let text = repeated(rt.alloc(), front, piece, times, end)?;
         let found = told(rt.alloc(), text.as_str())?;
-        assert!(rt; found.as_str() == want, "{front}{piece} {times} {want}");
+        assert!(rt; found.as_str() == want);
     }
     Ok(())
 }

@@ -1,4 +1,5 @@
 pub mod LoadLemmas
-pub mod AnswerLemmas
+pub mod ColumnLemmas
+pub mod CountLemmas
 pub mod EndLemmas
 pub mod WorldLemmas

@@ -1,165 +1,163 @@
 -- The refusals of a load, each where the causes before it don't hold.
-use Rattle.std.proofs.Common.{◌≡◌, ◌<◌, ◌≤◌, ℕ, Bool, true, false, List, ◌++◌, length, nat_le, Option, Some, None, IfSome, IsSome, Result, Ok, Err, is_ok, is_some, refl, sym, ap, subst, ◌∙◌, arith}
+use Rattle.std.proofs.Common.{◌≡◌, ◌+◌, ◌<◌, ◌≤◌, if◌then◌else◌, ℕ, Bool, true, false, List, [], ◌∷◌, ◌++◌, length, nat_le, Option, Some, None, IfSome, Ok, Err, is_ok, refl, sym, ap, subst, ◌∙◌, arith, length-append}
 use Rattle.std.proofs.lemmas.Bool.{le-leb, leb-true}
+use Rattle.std.proofs.lemmas.List.{append-nil}
+use Rattle.std.proofs.lemmas.List.Elements.{All-head}
+use Rattle.fb_outside.specs.Streams.{ForSomeInput, Takes, IsAtEnd}
 use Rattle.fb_types.specs.declared.cells.Cell.{Cell}
 use Rattle.fb_types.specs.declared.schemas.Column.{Column}
+use Rattle.fb_types.specs.declared.schema_text.SchemaKind.TheVariants.{BadType}
+use Rattle.fb_types.specs.Names.{IsColumnName}
+use Rattle.fb_types.specs.Schemas.{IsSchema}
 use Rattle.fb_types.specs.SchemaText.{SchemaFault, read_schema}
 use Rattle.fb_types.specs.Table.{Table}
-use Rattle.csv_load.specs.Loaded.{Fault, loaded}
+use Rattle.world.specs.World.{IsOneInt, is_int}
+use Rattle.world.proofs.OneIntLemmas.{one_int_column}
+use Rattle.csv_load.specs.Input.{TakesSome}
+use Rattle.csv_load.specs.Loaded.{loaded}
 use Rattle.command_words.specs.declared.Load.{Load}
-use Rattle.part_meta.specs.declared.catalog.Catalog.{Catalog}
-use Rattle.dataset.specs.Appended.{refusal}
-use Rattle.dataset.specs.Found.{Found}
-use Rattle.statuses.specs.declared.LimitKind.TheVariants as limit
+use Rattle.statuses.specs.declared.LimitKind.TheVariants.{Input}
 use Rattle.statuses.specs.declared.Status.{Status}
-use Rattle.statuses.specs.declared.Status.TheVariants as status
-use Rattle.ardea.specs.Load.{NoFile, Reading, catalog_or_refusal, load_result, load_schema, load_table, most_rows, records_or_refusal, rows_or_refusal, schema_or_refusal, text_or_refusal, unless_refused}
-use Rattle.statuses.specs.Outcome.{◌>>=◌}
-use Rattle.ardea.specs.Order.{asks_by, load_asks_store, load_takes_input}
+use Rattle.statuses.specs.declared.Status.TheVariants.{BadSchema, SchemaDiffers, Limit}
+use Rattle.ardea.specs.Load.{load_result, load_schema, load_table, most_input_bytes, not_loadable, records_or_refusal, within_limit}
+use Rattle.statuses.specs.declared.stop.Stop.{Stop}
+use Rattle.statuses.specs.declared.stop.Stop.TheVariants.{Refused, ReadFault, StoreFault, OutOfMemory}
+use Rattle.ardea.specs.Reading.{IsRefused, StopsAtInput, StopsAtRecords, StopsAtSchema, StopsReading}
 
--- ---- the schema
-
-pub schema_refused : (load : Load) (fault : SchemaFault) → read_schema load.schema ≡ Err fault
-    → load_schema load ≡ Err (status.BadSchema fault.column fault.kind)
+pub refused_schema : (text : List ℕ) (fault : SchemaFault) → read_schema text ≡ Err fault → load_schema text ≡ Err (BadSchema fault.column fault.kind)
 unfolding load_schema
-schema_refused load fault e = rw e refl
+refused_schema text fault e = rw e refl
 
-pub above : (n m : ℕ) → m < n → nat_le n m ≡ false
-above n m h = by (nat_le n m) refl
-  where
-    by : (b : Bool) → nat_le n m ≡ b → b ≡ false
-    by true e = absurd (omega (arith, leb-true n m e))
-    by false e = refl
-
-pub rows_refused : (load : Load) (schema : List Column) → read_schema load.schema ≡ Ok schema → most_rows < load.per_part
-    → load_schema load ≡ Err (status.Limit limit.Rows load.per_part most_rows)
+pub refused_column : (text : List ℕ) (schema : List Column) (column : ℕ) → read_schema text ≡ Ok schema
+    → not_loadable schema ≡ Some column → load_schema text ≡ Err (BadSchema column BadType)
 unfolding load_schema
-rows_refused load schema e h = rw (e, above load.per_part most_rows h) refl
+refused_column text schema column e off = rw (e, off) refl
 
-pub schema_read : (load : Load) (schema : List Column) → read_schema load.schema ≡ Ok schema → load.per_part ≤ most_rows
-    → load_schema load ≡ Ok schema
+pub loads_schema : (text : List ℕ) (schema : List Column) → read_schema text ≡ Ok schema → not_loadable schema ≡ None
+    → load_schema text ≡ Ok schema
 unfolding load_schema
-schema_read load schema e h = rw (e, le-leb load.per_part most_rows h) refl
+loads_schema text schema e on = rw (e, on) refl
 
--- ---- the table: what each step refuses, it is refused for
+above : (n m : ℕ) (b : Bool) → nat_le n m ≡ b → m < n → b ≡ false
+above n m true e h = absurd (omega (arith, leb-true n m e))
+above n m false e h = refl
 
-pub table_schema : (load : Load) (input : List ℕ) (readings : List ℕ → Reading) (why : Status) → load_schema load ≡ Err why
-    → load_table load input readings ≡ Err why
+refused_length : (input : List ℕ) → most_input_bytes < length input → within_limit input ≡ Err (Limit Input (most_input_bytes + 1) most_input_bytes)
+refused_length input h = rw (above (length input) most_input_bytes (nat_le (length input) most_input_bytes) refl h) refl
+
+-- what each step refuses, the table is refused for
+pub table_schema : (text input : List ℕ) (status : Status) → load_schema text ≡ Err status → load_table text input ≡ Err status
 unfolding load_table
-table_schema load input readings why e = rw e refl
+table_schema text input status e = rw e refl
 
-pub table_text : (load : Load) (input : List ℕ) (readings : List ℕ → Reading) (schema : List Column) (why : Status)
-    → load_schema load ≡ Ok schema → text_or_refusal load.file input readings ≡ Err why → load_table load input readings ≡ Err why
+pub table_input : (text input : List ℕ) (schema : List Column) (status : Status) → load_schema text ≡ Ok schema → within_limit input ≡ Err status
+    → load_table text input ≡ Err status
 unfolding load_table
-table_text load input readings schema why e bad = rw (e, bad) refl
+table_input text input schema status e h = rw (e, h) refl
 
-pub table_records : (load : Load) (input : List ℕ) (readings : List ℕ → Reading) (schema : List Column) (text : List ℕ) (why : Status)
-    → load_schema load ≡ Ok schema → text_or_refusal load.file input readings ≡ Ok text
-    → records_or_refusal (loaded text schema load.skip) ≡ Err why → load_table load input readings ≡ Err why
+pub table_records : (text input : List ℕ) (schema : List Column) (status : Status) → load_schema text ≡ Ok schema
+    → length input ≤ most_input_bytes → records_or_refusal (loaded input schema 0) ≡ Err status → load_table text input ≡ Err status
 unfolding load_table
-table_records load input readings schema text why e read bad = rw (e, read, bad) refl
+table_records text input schema status e h bad = rw (e, le-leb (length input) most_input_bytes h, bad) refl
 
-pub table_done : (load : Load) (input : List ℕ) (readings : List ℕ → Reading) (schema : List Column) (text : List ℕ) (records : List (List Cell))
-    → load_schema load ≡ Ok schema → text_or_refusal load.file input readings ≡ Ok text → loaded text schema load.skip ≡ Ok records
-    → load_table load input readings ≡ Ok (record { schema = schema; records = records })
+pub table_done : (text input : List ℕ) (schema : List Column) (records : List (List Cell)) → load_schema text ≡ Ok schema
+    → length input ≤ most_input_bytes → loaded input schema 0 ≡ Ok records
+    → load_table text input ≡ Ok (record { schema = schema; records = records })
 unfolding load_table
-table_done load input readings schema text records e read good = rw (e, read, good) refl
+table_done text input schema records e h good = rw (e, le-leb (length input) most_input_bytes h, good) refl
 
--- ---- the load: what refuses the table, the catalog or the records, it is refused for
-
-pub result_table : (load : Load) (input : List ℕ) (readings : List ℕ → Reading) (found : Found) (why : Status)
-    → load_table load input readings ≡ Err why → load_result load input readings found ≡ Err why
+-- and what refuses the table, the load is refused for
+pub refused_table : (text input : List ℕ) (there : Bool) (status : Status) → load_table text input ≡ Err status → load_result text input there ≡ Err status
 unfolding load_result
-result_table load input readings found why e = rw e refl
+refused_table text input there status e = rw e refl
 
-pub result_catalog : (load : Load) (input : List ℕ) (readings : List ℕ → Reading) (found : Found) (table : Table) (why : Status)
-    → load_table load input readings ≡ Ok table → catalog_or_refusal table.schema found ≡ Err why
-    → load_result load input readings found ≡ Err why
+pub load_there : (text input : List ℕ) (table : Table) → load_table text input ≡ Ok table → load_result text input true ≡ Err (SchemaDiffers 0)
 unfolding load_result
-result_catalog load input readings found table why e bad = rw (e, bad) refl
+load_there text input table e = rw e refl
 
-pub result_is : (load : Load) (input : List ℕ) (readings : List ℕ → Reading) (found : Found) (table : Table) (catalog : Catalog)
-    → load_table load input readings ≡ Ok table → catalog_or_refusal table.schema found ≡ Ok catalog
-    → load_result load input readings found ≡ unless_refused table (refusal catalog table.schema load.per_part (length table.records))
+pub load_done : (text input : List ℕ) (table : Table) → load_table text input ≡ Ok table → load_result text input false ≡ Ok table
 unfolding load_result
-result_is load input readings found table catalog e good = rw (e, good) refl
+load_done text input table e = rw e refl
 
--- ---- whether the input is asked for
+-- bytes that were taken to the end are all that was left
+pub all_taken : (old new : Option (List ℕ)) (bytes : List ℕ) → Takes old new bytes → IsAtEnd new → IfSome old (λ all. all ≡ bytes)
+all_taken None new bytes taken end = tt
+all_taken (Some all) None bytes taken end = absurd (cc)
+all_taken (Some all) (Some rest) bytes taken end =
+    let is : all ≡ bytes ++ rest = cc in
+    let none : bytes ++ rest ≡ bytes = rw end (append-nil bytes) in
+    is ∙ none
 
-pub takes_input : (load : Load) (schema : List Column) → load_schema load ≡ Ok schema → load.file ≡ None → load_takes_input load ≡ true
-takes_input load schema e none = rw (e, none) refl
+-- bytes that came are no more than all that was left
+came_short : (old new : Option (List ℕ)) (bytes : List ℕ) (n : ℕ) → Takes old new bytes → n < length bytes → IfSome old (λ all. n < length all)
+came_short None new bytes n taken more = tt
+came_short (Some all) None bytes n taken more = absurd (cc)
+came_short (Some all) (Some rest) bytes n taken more =
+    let is : all ≡ bytes ++ rest = cc in
+    omega (arith, length-append bytes rest, ap length is)
 
-pub names_file : (load : Load) (schema : List Column) → load_schema load ≡ Ok schema → load_takes_input load ≡ false → IsSome load.file
-names_file load schema e refused = by load.file refl
-  where
-    by : (file : Option (List ℕ)) → load.file ≡ file → IsSome file
-    by None none = let yes : load_takes_input load ≡ true = takes_input load schema e none in absurd (cc)
-    by (Some name) some = refl
+-- an input that is too long is refused, whether or not its bytes are told
+too_long : (old new : Option (List ℕ)) (bytes : List ℕ) → Takes old new bytes → most_input_bytes < length bytes
+    → ForSomeInput old (λ input. within_limit input ≡ Err (Limit Input (most_input_bytes + 1) most_input_bytes))
+too_long None new bytes taken more = record { input = bytes; told = tt; holds = refused_length bytes more }
+too_long (Some all) new bytes taken more =
+    record { input = all; told = refl; holds = refused_length all (came_short (Some all) new bytes most_input_bytes taken more) }
 
--- ---- whether the store is
+pub too_long_of : (old new : Option (List ℕ)) (limit block : ℕ)
+    → (limit ≡ most_input_bytes) × TakesSome old new (λ n. (most_input_bytes < n) × (n ≤ most_input_bytes + block))
+    → ForSomeInput old (λ input. within_limit input ≡ Err (Limit Input (limit + 1) limit))
+too_long_of old new limit block h = rw h.0 (too_long old new h.1.came h.1.taken h.1.count.0)
 
-pub schema_loaded : (load : Load) (input : List ℕ) (readings : List ℕ → Reading) (table : Table) → load_table load input readings ≡ Ok table
-    → (schema : List Column) × (load_schema load ≡ Ok schema)
-schema_loaded load input readings table e = by (load_schema load) refl
-  where
-    by : (r : Result (List Column) Status) → load_schema load ≡ r → (schema : List Column) × (load_schema load ≡ Ok schema)
-    by (Ok schema) is = (schema, is)
-    by (Err why) is = let bad : load_table load input readings ≡ Err why = table_schema load input readings why is in absurd (cc)
+-- a schema text that stops a load stops it over every input
+refused_text : (load : Load) (left : Option (List ℕ)) (status : Status) → load_schema load.schema ≡ Err status → IsRefused load left status
+refused_text load None status h = record { input = []; told = tt; holds = table_schema load.schema [] status h }
+refused_text load (Some all) status h = record { input = all; told = refl; holds = table_schema load.schema all status h }
 
-schema_good : (load : Load) (input : List ℕ) (readings : List ℕ → Reading) (table : Table) → load_table load input readings ≡ Ok table
-    → is_ok (load_schema load) ≡ true
-schema_good load input readings table e = ap is_ok (schema_loaded load input readings table e).1
+pub stops_at_schema : (load : Load) (left : Option (List ℕ)) (text : List ℕ) (stop : Stop) → text ≡ load.schema
+    → StopsAtSchema text stop → StopsReading load left stop
+stops_at_schema load left text (Refused status) same h = refused_text load left status (subst (λ (t : List ℕ). load_schema t ≡ Err status) same h)
+stops_at_schema load left text ReadFault same h = absurd h
+stops_at_schema load left text StoreFault same h = absurd h
+stops_at_schema load left text OutOfMemory same h = tt
 
--- what the store gives of files doesn't matter to a load that names none
-same_table : (load : Load) (input : List ℕ) (some others : List ℕ → Reading) → load.file ≡ None
-    → load_table load input some ≡ load_table load input others
-unfolding load_table
-same_table load input some others none = simp none
+-- so does an input that is refused, or that failed
+pub stops_at_input : (load : Load) (schema : List Column) (left : Option (List ℕ)) (stop : Stop) → load_schema load.schema ≡ Ok schema
+    → StopsAtInput left stop → StopsReading load left stop
+stops_at_input load schema left (Refused status) e h =
+    record { input = h.input; told = h.told; holds = table_input load.schema h.input schema status e h.holds }
+stops_at_input load schema left ReadFault e h = ap is_ok e
+stops_at_input load schema left StoreFault e h = absurd h
+stops_at_input load schema left OutOfMemory e h = tt
 
-pub asks_store : (load : Load) (input : List ℕ) (readings : List ℕ → Reading) (table : Table) → load_table load input readings ≡ Ok table
-    → load_asks_store load input ≡ true
-asks_store load input readings table e = by load.file refl
-  where
-    by : (file : Option (List ℕ)) → load.file ≡ file → load_asks_store load input ≡ true
-    by None none =
-        subst (λ (f : Option (List ℕ)). asks_by f load input ≡ true) (sym none) (ap is_ok (same_table load input (λ name. NoFile) readings none ∙ e))
-    by (Some name) some = subst (λ (f : Option (List ℕ)). asks_by f load input ≡ true) (sym some) (schema_good load input readings table e)
+-- and so do records of an input that was taken to its end
+pub stops_at_records : (load : Load) (schema : List Column) (old new : Option (List ℕ)) (bytes : List ℕ) (stop : Stop)
+    → load_schema load.schema ≡ Ok schema → Takes old new bytes → IsAtEnd new → length bytes ≤ most_input_bytes
+    → StopsAtRecords (loaded bytes schema 0) stop → StopsReading load old stop
+stops_at_records load schema old new bytes (Refused status) e taken end within h =
+    record {
+      input = bytes;
+      told = all_taken old new bytes taken end;
+      holds = table_records load.schema bytes schema status e within h;
+    }
+stops_at_records load schema old new bytes ReadFault e taken end within h = absurd h
+stops_at_records load schema old new bytes StoreFault e taken end within h = absurd h
+stops_at_records load schema old new bytes OutOfMemory e taken end within h = tt
 
-pub asks_file : (load : Load) (input : List ℕ) → IsSome load.file → is_ok (load_schema load) ≡ true → load_asks_store load input ≡ true
-asks_file load input named good = by load.file refl
-  where
-    by : (file : Option (List ℕ)) → load.file ≡ file → load_asks_store load input ≡ true
-    by None none = let bad : false ≡ true = sym (ap is_some none) ∙ named in absurd (cc)
-    by (Some name) some = subst (λ (f : Option (List ℕ)). asks_by f load input ≡ true) (sym some) good
+-- a schema that is read isn't refused
+pub not_refused : (text : List ℕ) (schema : List Column) → load_schema text ≡ Ok schema → is_ok (load_schema text) ≡ false → ⊥
+not_refused text schema e h = let bad : true ≡ false = sym (ap is_ok e) ∙ h in cc
 
--- ---- what an accepted load keeps
+-- a schema that can be loaded is one `int` column
+first_by : (b : Bool) → if◌then◌else◌ {A = Option ℕ} b None (Some 1) ≡ None → b ≡ true
+first_by true e = refl
+first_by false e = absurd (cc)
 
--- the table, of its text
-abbrev pub table_by : Load → Result (List ℕ) Status → Result Table Status
-table_by load text =
-    load_schema load
-    >>= (λ schema. text
-    >>= (λ bytes. records_or_refusal (loaded bytes schema load.skip)
-    >>= (λ records. Ok (record { schema = schema; records = records }))))
+more_by : (b : Bool) → if◌then◌else◌ {A = Option ℕ} b (Some 2) (Some 1) ≡ None → ⊥
+more_by true e = absurd (cc)
+more_by false e = absurd (cc)
 
-pub table_is : (load : Load) (input : List ℕ) (readings : List ℕ → Reading)
-    → load_table load input readings ≡ table_by load (text_or_refusal load.file input readings)
-unfolding load_table
-table_is load input readings = refl
-
--- the rows of a part are few
-few_by : (per_part : ℕ) (r : Result (List Column) Status) (schema : List Column)
-    → (r >>= (λ s. rows_or_refusal per_part s)) ≡ Ok schema → per_part ≤ most_rows
-few_by per_part (Err why) schema e = absurd (cc)
-few_by per_part (Ok other) schema e = by (nat_le per_part most_rows) refl
-  where
-    by : (b : Bool) → nat_le per_part most_rows ≡ b → per_part ≤ most_rows
-    by true is = leb-true per_part most_rows is
-    by false is =
-        let bad : rows_or_refusal per_part other ≡ Err (status.Limit limit.Rows per_part most_rows) = rw is refl in
-        let good : rows_or_refusal per_part other ≡ Ok schema = e in
-        absurd (cc)
-
-pub rows_few : (load : Load) (schema : List Column) → load_schema load ≡ Ok schema → load.per_part ≤ most_rows
-unfolding load_schema
-rows_few load schema e = few_by load.per_part (schema_or_refusal (read_schema load.schema)) schema e
+pub one_int : (schema : List Column) → IsSchema schema → not_loadable schema ≡ None → IsOneInt schema
+one_int [] valid e = absurd (omega (arith, valid.some))
+one_int (column ∷ []) valid e =
+    one_int_column column (All-head (λ (c : Column). IsColumnName c.name) column [] valid.named) (first_by (is_int column.ty) e)
+one_int (column ∷ another ∷ columns) valid e = absurd (more_by (is_int column.ty) e)

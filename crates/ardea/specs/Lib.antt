@@ -1,4 +1,4 @@
 pub mod Load
-pub mod Answers
+pub mod Reading
+pub mod Written
 pub mod Done
-pub mod Order

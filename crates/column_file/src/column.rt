@@ -6,8 +6,7 @@ ghost use Rattle.fb_outside.specs.Files.{SameFiles, bytes_at, file_at, told_at};
 ghost use Rattle.fb_outside.specs.Reads.{AddsOnly, AddsRead, IsWholeLook, whole_look};
 ghost use Rattle.fb_types.specs.Types.{width_of};
 ghost use Rattle.wah_words.specs.Bytes.{spelling};
-ghost use Rattle.answers.specs.Answers.{Answers};
-ghost use Rattle.column_file.specs.Opening.{StopsMask, StopsOpening, column_in, mask_in, opened_mask, told_by_files};
+ghost use Rattle.column_file.specs.Opening.{Opens, StopsMask, StopsOpening, column_in, mask_in, opened_mask};
 ghost use Rattle.column_file.specs.Rows.{ReadsRows, StopsReading, rows_in};
 ghost use Rattle.column_file.specs.Values.{ValueFits, values_bytes, width_in};
 
@@ -39,7 +38,7 @@ pub struct ColumnRef {
     pub mask: Wah,
 }
 
-/// Answers told_by_files a column with so many rows: asks how long its values file is, and reads its mask file.
+/// Opens a column with so many rows: asks how long its values file is, and reads its mask file.
 pub fn open_column<S: Store>(
     alloc: Global,
     store: &mut S,
@@ -54,7 +53,7 @@ pub fn open_column<S: Store>(
     ensures stop { IfErr result (StopsOpening (width_in ty) rows) }
 
     // The two files are those of such a column, or have a first fault.
-    ensures exact { IfSome (S.files store.old) (λ m. Answers told_by_files (opened_mask result) (column_in (width_in ty) rows (file_at m name.now) (file_at m mask_name.now))) }
+    ensures exact { IfSome (S.files store.old) (λ m. Opens (opened_mask result) (column_in (width_in ty) rows (file_at m name.now) (file_at m mask_name.now))) }
     ensures files { SameFiles (S.files store.old) (S.files store.new) }
     ensures reads { AddsOnly (IsWholeLook (S.files store.old) mask_name.now) (S.reads store.old) (S.reads store.new) }
     ensures once { OnOk result (IfSome (S.files store.old) (λ m. AddsRead (Some m) (S.reads store.old) (S.reads store.new) (whole_look m mask_name.now))) }
@@ -80,7 +79,7 @@ fn with_mask<S: Store>(
     ensures cause { HasCause (S.faults store.old) (S.faults store.new) (IsErrOf result ColFault.Store) }
     ensures opened { IfOk result (λ column. (column.name ≡ name.now) × (column.ty ≡ ty) × (column.rows ≡ rows) × (length column.mask ≡ rows)) }
     ensures stop { IfErr result (StopsMask rows) }
-    ensures exact { IfSome (S.files store.old) (λ m. Answers told_by_files (opened_mask result) (mask_in rows (file_at m mask_name.now))) }
+    ensures exact { IfSome (S.files store.old) (λ m. Opens (opened_mask result) (mask_in rows (file_at m mask_name.now))) }
     ensures files { SameFiles (S.files store.old) (S.files store.new) }
     ensures reads { AddsOnly (IsWholeLook (S.files store.old) mask_name.now) (S.reads store.old) (S.reads store.new) }
     ensures once { OnOk result (IfSome (S.files store.old) (λ m. AddsRead (Some m) (S.reads store.old) (S.reads store.new) (whole_look m mask_name.now))) }

@@ -1,5 +1,1 @@
-pub mod AheadLemmas
-pub mod NumberLemmas
 pub mod PathLemmas
-pub mod PlaceLemmas
-pub mod WordsLemmas

@@ -1,5 +1,2 @@
-pub mod Places
 pub mod Words
 pub mod Valid
-pub mod Lines
-pub mod Ahead

@@ -1,5 +1,4 @@
 pub mod Input
-pub mod File
 pub mod Loaded
 pub mod Answers
 pub mod Law

@@ -1,1 +1,4 @@
-pub mod CompleteLemmas
+pub mod Refusals
+pub mod PrintLemmas
+pub mod RunLemmas
+pub mod CountLemmas

@@ -1,1 +1,6 @@
-pub mod Completes
+pub mod Reply
+pub mod Loading
+pub mod Effects
+pub mod Causes
+pub mod Order
+pub mod Counting

@@ -1,4 +1,5 @@
-pub mod RowLemmas
-pub mod StepLemmas
-pub mod PartLemmas
+pub mod OpenLemmas
+pub mod CountLemmas
+pub mod ScanLemmas
 pub mod WorldLemmas
+pub mod AskedLemmas

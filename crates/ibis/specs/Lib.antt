@@ -1,5 +1,4 @@
 pub mod Query
 pub mod Count
-pub mod Listing
+pub mod Found
 pub mod Steps
-pub mod Rows

@@ -1,5 +1,5 @@
 -- The bitmaps that a run of bins needs rise, are kept, and are few.
-use Rattle.std.proofs.Common.{◌≡◌, ◌==◌, ℕ, zero, suc, ◌+◌, ◌-◌, ◌*◌, ◌/◌, ◌<◌, ◌≤◌, true, false, List, [], ◌∷◌, ◌++◌, All, length, map, min, Option, Some, None, get_or, nat_le, nat_lt, unwrap_or, if◌then◌else◌, refl, sym, ap, ◌∙◌, add-one, arith, length-append}
+use Rattle.std.proofs.Common.{◌≡◌, ◌==◌, ℕ, zero, suc, ◌+◌, ◌-◌, ◌*◌, ◌/◌, ◌%◌, ◌<◌, ◌≤◌, Bool, true, false, List, [], ◌∷◌, ◌++◌, All, length, map, min, Option, Some, None, get_or, nat_le, nat_lt, unwrap_or, if◌then◌else◌, refl, sym, ap, ◌∙◌, add-one, arith, rules, length-append}
 use Rattle.std.proofs.lemmas.Grind.{div_ceil_times}
 use Rattle.std.proofs.lemmas.Bool.Decides.{nat_tests}
 use Rattle.std.proofs.lemmas.List.{length-map}

@@ -1,5 +1,5 @@
 -- The tokens that a text spells are those that the function gives.
-use Rattle.std.proofs.Common.{◌≡◌, ℕ, Bool, true, false, List, [], ◌∷◌, ◌++◌, length, get_or, take, drop, refl, sym, ap, subst, ◌∙◌, eqb, arith}
+use Rattle.std.proofs.Common.{◌≡◌, ℕ, ◌<◌, Bool, true, false, List, [], ◌∷◌, ◌++◌, length, get_or, take, drop, refl, sym, ap, subst, ◌∙◌, eqb, arith}
 use Rattle.std.specs.Prelude.{Some}
 use Rattle.std.specs.List.{prefix_len, list_all}
 use Rattle.std.specs.Char.{is_ascii_digit}
@@ -11,14 +11,11 @@ use Rattle.index_spec.specs.declared.token.Token.{Token}
 use Rattle.index_spec.specs.declared.token.Token.TheVariants as t
 use Rattle.index_spec.specs.Words.{spelling, word_of}
 use Rattle.lexing.specs.Blanks.{is_blank, StopsAt}
-use Rattle.lexing.specs.Digits.{natural_of, signed}
-use Rattle.lexing.proofs.DigitLemmas.{natural_at-again, natural_of-some}
 use Rattle.lexing.proofs.Laws as lexing
 use Rattle.lexing.proofs.Laws.{IsComplete, spelled-tokens_from}
-use Rattle.index_spec.specs.Tokens.{is_letter, in_word, minus, magnitude, word_at, number_at, token_at, told, reader, all_or_none, tokens_of, IsWritten, EndsAt, IsToken, Spells}
+use Rattle.index_spec.specs.Tokens.{is_letter, in_word, minus, magnitude, signed, word_at, number_at, token_at, told, reader, all_or_none, tokens_of, IsWritten, EndsAt, IsToken, Spells}
 use Rattle.index_spec.specs.Shorter.{reader-shorter}
-use Rattle.std.proofs.lemmas.Bool.{and_parts}
-use Rattle.lexing.proofs.Runs.{prefix_len-cut}
+use Rattle.lexing.proofs.Runs.{prefix_len-cut, and_parts}
 
 -- the token is read at the front, where no blank stands
 abbrev pub Reads : List ℕ → Token → List ℕ → Type 0
@@ -75,9 +72,14 @@ word_reads word rest stops =
 
 -- ---- numbers
 
-digits_again : (is_negative : Bool) (digits rest : List ℕ) (n : ℕ) → natural_of digits ≡ Some n → StopsAt is_ascii_digit rest → number_at is_negative (digits ++ rest) ≡ Some (t.Number (signed is_negative (magnitude n)), rest)
+digits_again : (is_negative : Bool) (digits rest : List ℕ) → list_all is_ascii_digit digits ≡ true → 0 < length digits → StopsAt is_ascii_digit rest → number_at is_negative (digits ++ rest) ≡ Some (t.Number (signed is_negative (magnitude digits)), rest)
 unfolding number_at
-digits_again is_negative digits rest n is stops = rw (natural_at-again digits rest n is stops) refl
+digits_again is_negative digits rest all some stops =
+    let n : prefix_len is_ascii_digit (digits ++ rest) ≡ length digits = prefix_len-cut is_ascii_digit digits rest all stops in
+    let front : take (length digits) (digits ++ rest) ≡ digits = take_at digits rest (length digits) refl in
+    let back : drop (length digits) (digits ++ rest) ≡ rest = drop_at digits rest (length digits) refl in
+    let not_none : eqb (length digits) 0 ≡ false = grind (arith, nat_tests) in
+    rw (n, front, back, not_none) refl
 
 record DigitFacts (b : ℕ) : Type 0 where
   visible : is_blank b ≡ false
@@ -87,25 +89,25 @@ record DigitFacts (b : ℕ) : Type 0 where
 digit_facts : (b : ℕ) → is_ascii_digit b ≡ true → DigitFacts b
 digit_facts b e = record { visible = grind (arith, nat_tests); no_dash = grind (arith, nat_tests); no_letter = grind (arith, nat_tests) }
 
-positive_reads : (digits rest : List ℕ) (n : ℕ) → natural_of digits ≡ Some n → StopsAt is_ascii_digit rest → Reads (digits ++ rest) (t.Number (signed false (magnitude n))) rest
+positive_reads : (digits rest : List ℕ) → list_all is_ascii_digit digits ≡ true → 0 < length digits → StopsAt is_ascii_digit rest → Reads (digits ++ rest) (t.Number (signed false (magnitude digits))) rest
 unfolding token_at
-positive_reads [] rest n is stops = absurd cc
-positive_reads (b ∷ bs) rest n is stops =
-    let digit : is_ascii_digit b ≡ true = (and_parts (is_ascii_digit b) (list_all is_ascii_digit bs) (natural_of-some (b ∷ bs) n is).all).0 in
+positive_reads [] rest all some stops = absurd (omega arith)
+positive_reads (b ∷ bs) rest all some stops =
+    let digit : is_ascii_digit b ≡ true = (and_parts (is_ascii_digit b) (list_all is_ascii_digit bs) all).0 in
     let f = digit_facts b digit in
     let no_dash : eqb b 45 ≡ false = f.no_dash in
     let no_letter : is_letter b ≡ false = f.no_letter in
-    let found : token_at (b ∷ (bs ++ rest)) ≡ Some (t.Number (signed false (magnitude n)), rest) = rw (no_dash, no_letter, digit) (digits_again false (b ∷ bs) rest n is stops) in
+    let found : token_at (b ∷ (bs ++ rest)) ≡ Some (t.Number (signed false (magnitude (b ∷ bs))), rest) = rw (no_dash, no_letter, digit) (digits_again false (b ∷ bs) rest all some stops) in
     record { first = b; others = bs ++ rest; cons = refl; visible = f.visible; found = ap told found }
 
-negative_reads : (digits rest : List ℕ) (n : ℕ) → natural_of digits ≡ Some n → StopsAt is_ascii_digit rest → Reads (45 ∷ (digits ++ rest)) (t.Number (signed true (magnitude n))) rest
+negative_reads : (digits rest : List ℕ) → list_all is_ascii_digit digits ≡ true → 0 < length digits → StopsAt is_ascii_digit rest → Reads (45 ∷ (digits ++ rest)) (t.Number (signed true (magnitude digits))) rest
 unfolding token_at
-negative_reads digits rest n is stops =
-    record { first = 45; others = digits ++ rest; cons = refl; visible = refl; found = ap told (digits_again true digits rest n is stops) }
+negative_reads digits rest all some stops =
+    record { first = 45; others = digits ++ rest; cons = refl; visible = refl; found = ap told (digits_again true digits rest all some stops) }
 
-number_reads : (is_negative : Bool) (digits rest : List ℕ) (n : ℕ) → natural_of digits ≡ Some n → StopsAt is_ascii_digit rest → Reads ((minus is_negative ++ digits) ++ rest) (t.Number (signed is_negative (magnitude n))) rest
-number_reads true digits rest n is stops = negative_reads digits rest n is stops
-number_reads false digits rest n is stops = positive_reads digits rest n is stops
+number_reads : (is_negative : Bool) (digits rest : List ℕ) → list_all is_ascii_digit digits ≡ true → 0 < length digits → StopsAt is_ascii_digit rest → Reads ((minus is_negative ++ digits) ++ rest) (t.Number (signed is_negative (magnitude digits))) rest
+number_reads true digits rest all some stops = negative_reads digits rest all some stops
+number_reads false digits rest all some stops = positive_reads digits rest all some stops
 
 -- ---- every token
 
@@ -126,7 +128,7 @@ token_reads t.Close form rest e ends = sign_reads 41 t.Close form rest refl refl
 token_reads t.Comma form rest e ends = sign_reads 44 t.Comma form rest refl refl e
 token_reads (t.Word word) form rest e ends = subst (λ f. ReadsForm rest f (t.Word word)) (sym e) (word_reads word rest ends)
 token_reads (t.Number z) form rest is ends =
-    let reads = number_reads is.is_negative is.digits rest is.number is.natural ends in
+    let reads = number_reads is.is_negative is.digits rest is.all_digits is.some_digit ends in
     subst (λ f. ReadsForm rest f (t.Number z)) (sym is.written) (subst (λ n. Reads ((minus is.is_negative ++ is.digits) ++ rest) (t.Number n) rest) (sym is.value) reads)
 
 -- ---- the whole text

@@ -1,12 +1,14 @@
 -- The tokens that the function gives are those that the text spells.
-use Rattle.std.proofs.Common.{◌≡◌, ℕ, Bool, true, false, cond, List, [], ◌∷◌, ◌++◌, length, take, drop, refl, sym, ap, subst, ◌∙◌, inl, inr, eqb, eqb-true, append_assoc}
+use Rattle.std.proofs.Common.{◌≡◌, ℕ, ◌≤◌, ◌<◌, Bool, true, false, cond, List, [], ◌∷◌, ◌++◌, length, take, drop, refl, sym, ap, subst, ◌∙◌, inl, inr, eqb, eqb-true, append_assoc, arith}
 use Rattle.std.specs.Prelude.{Option, Some, None, Result, Ok, Err}
 use Rattle.std.specs.Option.{option_map}
 use Rattle.std.specs.List.{prefix_len, find}
 use Rattle.std.specs.Str.{bytes_eq}
 use Rattle.std.specs.Char.{is_ascii_digit}
-use Rattle.std.proofs.lemmas.List.{take-append-drop}
+use Rattle.std.proofs.lemmas.List.{take-append-drop, length-take-le}
+use Rattle.std.proofs.lemmas.List.Sums.{prefix_len-le-length}
 use Rattle.std.proofs.lemmas.Slice.Eq.{bytes_eq-Decides}
+use Rattle.std.proofs.lemmas.Bool.Decides.{nat_tests}
 use Rattle.index_spec.specs.declared.word.Word.{Word}
 use Rattle.index_spec.specs.declared.word.TheConstants.{WORDS}
 use Rattle.index_spec.specs.declared.token.Token.{Token}
@@ -16,11 +18,9 @@ use Rattle.lexing.specs.Tokens as lexing
 use Rattle.lexing.proofs.Laws.{IsSound, tokens_from-spelled}
 use Rattle.index_spec.specs.declared.token.NoToken.{NoToken}
 use Rattle.index_spec.specs.Shorter.{reader-shorter}
-use Rattle.index_spec.specs.Tokens.{is_letter, in_word, sign_of, minus, magnitude, word_at, number_at, token_at, told, reader, all_or_none, tokens_of, IsNumeral, IsWritten, EndsAt, IsInFront, IsToken, Spells}
-use Rattle.lexing.specs.Digits.{natural_at, signed}
-use Rattle.lexing.proofs.Cases.{chosen, mapped}
-use Rattle.lexing.proofs.DigitLemmas.{natural_at-cut}
-use Rattle.lexing.proofs.Runs.{rest_stops}
+use Rattle.index_spec.specs.Tokens.{is_letter, in_word, sign_of, minus, magnitude, signed, word_at, number_at, token_at, told, reader, all_or_none, tokens_of, IsNumeral, IsWritten, EndsAt, IsInFront, IsToken, Spells}
+use Rattle.lexing.proofs.Cases.{chosen, guarded, mapped}
+use Rattle.lexing.proofs.Runs.{front_passes, rest_stops}
 
 find_passes : {X : Type 0} (p : X → Bool) (xs : List X) (x : X) → find p xs ≡ Some x → p x ≡ true
 find_passes p [] x e = cc
@@ -44,15 +44,19 @@ word_cuts text found e =
     let h = mapped (λ w. (t.Word w, drop n text)) (word_of (take n text)) found e in
     subst (CutsAt text) h.1.1 (record { form = take n text; cut = sym (take-append-drop n text); written = word_of_spelled (take n text) h.0 h.1.0; ends = rest_stops in_word text })
 
+some_digits : (n : ℕ) (text : List ℕ) → eqb n 0 ≡ false → n ≤ length text → 0 < length (take n text)
+some_digits n text some within = let l = length-take-le n text within in grind (arith, nat_tests)
+
 number_cuts : (is_negative : Bool) (text : List ℕ) (found : Token × List ℕ) → number_at is_negative text ≡ Some found → CutsAt (minus is_negative ++ text) found
 unfolding number_at
 number_cuts is_negative text found e =
-    let h = mapped (λ f. (t.Number (signed is_negative (magnitude f.0)), f.1)) (natural_at text) found e in
-    let at = natural_at-cut text h.0 h.1.0 in
-    let numeral : IsNumeral (minus is_negative ++ at.digits) (signed is_negative (magnitude h.0.0)) =
-    record { is_negative = is_negative; digits = at.digits; number = h.0.0; written = refl; natural = at.natural; value = refl } in
-    let cut : minus is_negative ++ text ≡ (minus is_negative ++ at.digits) ++ h.0.1 = ap (λ x. minus is_negative ++ x) at.cut ∙ sym (append_assoc (minus is_negative) at.digits h.0.1) in
-    subst (CutsAt (minus is_negative ++ text)) h.1.1 (record { form = minus is_negative ++ at.digits; cut = cut; written = numeral; ends = at.ends })
+    let n = prefix_len is_ascii_digit text in
+    let digits = take n text in
+    let h = guarded (eqb n 0) (t.Number (signed is_negative (magnitude digits)), drop n text) found e in
+    let numeral : IsNumeral (minus is_negative ++ digits) (signed is_negative (magnitude digits)) =
+    record { is_negative = is_negative; digits = digits; written = refl; all_digits = front_passes is_ascii_digit text; some_digit = some_digits n text h.0 (prefix_len-le-length is_ascii_digit text); value = refl } in
+    let cut : minus is_negative ++ text ≡ (minus is_negative ++ digits) ++ drop n text = ap (λ x. minus is_negative ++ x) (sym (take-append-drop n text)) ∙ sym (append_assoc (minus is_negative) digits (drop n text)) in
+    subst (CutsAt (minus is_negative ++ text)) h.1 (record { form = minus is_negative ++ digits; cut = cut; written = numeral; ends = rest_stops is_ascii_digit text })
 
 abbrev IsSign : ℕ → Token → Type 0
 IsSign b token = IsWritten (b ∷ []) token × ((rest : List ℕ) → EndsAt token rest)

@@ -1,5 +1,5 @@
 -- A token has at least one byte.
-use Rattle.std.proofs.Common.{◌≡◌, ℕ, ◌<◌, Bool, true, false, cond, List, [], ◌∷◌, length, take, drop, refl, ap, ◌∙◌, arith, eqb, inl, inr}
+use Rattle.std.proofs.Common.{◌≡◌, ℕ, ◌-◌, ◌≤◌, ◌<◌, Bool, true, false, cond, List, [], ◌∷◌, length, take, drop, refl, ap, ◌∙◌, arith, eqb, length-drop, inl, inr}
 use Rattle.std.specs.Prelude.{Option, Some, None, Ok}
 use Rattle.std.specs.Option.{option_map}
 use Rattle.std.specs.List.{prefix_len}
@@ -9,19 +9,21 @@ use Rattle.std.proofs.lemmas.Bool.Decides.{nat_tests}
 use Rattle.index_spec.specs.declared.token.Token.{Token}
 use Rattle.index_spec.specs.declared.token.Token.TheVariants as t
 use Rattle.index_spec.specs.Words.{word_of}
-use Rattle.index_spec.specs.Tokens.{is_letter, in_word, sign_of, magnitude, word_at, number_at, token_at, told, reader}
-use Rattle.lexing.specs.Digits.{natural_at, signed}
-use Rattle.lexing.proofs.Cases.{chosen, mapped}
-use Rattle.lexing.proofs.DigitLemmas.{natural_at-shorter}
-use Rattle.lexing.proofs.Runs.{dropped_less}
+use Rattle.index_spec.specs.Tokens.{is_letter, in_word, sign_of, magnitude, signed, word_at, number_at, token_at, told, reader}
+use Rattle.lexing.proofs.Cases.{chosen, guarded, mapped}
+
+dropped_less : (n : ℕ) (text rest : List ℕ) → eqb n 0 ≡ false → n ≤ length text → drop n text ≡ rest → length rest < length text
+dropped_less n text rest some within e =
+    let same : length (drop n text) ≡ length rest = ap length e in
+    let cut : length (drop n text) ≡ length text - n = length-drop n text in
+    grind (arith, nat_tests)
 
 number_at_shorter : (is_negative : Bool) (text : List ℕ) (found : Token × List ℕ) → number_at is_negative text ≡ Some found → length found.1 < length text
 unfolding number_at
 number_at_shorter is_negative text found e =
-    let h = mapped (λ f. (t.Number (signed is_negative (magnitude f.0)), f.1)) (natural_at text) found e in
-    let less = natural_at-shorter text h.0 h.1.0 in
-    let same : length h.0.1 ≡ length found.1 = ap (λ f. length f.1) h.1.1 in
-    omega arith
+    let n = prefix_len is_ascii_digit text in
+    let h = guarded (eqb n 0) (t.Number (signed is_negative (magnitude (take n text))), drop n text) found e in
+    dropped_less n text found.1 h.0 (prefix_len-le-length is_ascii_digit text) (ap (λ f. f.1) h.1)
 
 letter_in_word : (b : ℕ) (bs : List ℕ) → is_letter b ≡ true → eqb (prefix_len in_word (b ∷ bs)) 0 ≡ false
 letter_in_word b bs e = rw e (grind (arith, nat_tests))

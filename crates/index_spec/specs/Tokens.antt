@@ -1,10 +1,9 @@
 -- Which tokens a text spells.
-use Rattle.std.specs.Prelude.{◌≡◌, ℕ, ◌^◌, min, Bool, true, false, ◌&&◌, ◌||◌, if◌then◌else◌, ◌==◌, nat_le, List, [], ◌∷◌, ◌++◌, length, take, drop, Option, Some, None, Result, Ok, Err, ℤ, codes}
+use Rattle.std.specs.Prelude.{◌≡◌, ◌<◌, ℕ, ◌+◌, ◌-◌, ◌*◌, ◌^◌, min, Bool, true, false, ◌&&◌, ◌||◌, if◌then◌else◌, ◌==◌, nat_le, List, [], ◌∷◌, ◌++◌, length, take, drop, Option, Some, None, Result, Ok, Err, ℤ, pos, neg_ℤ, codes}
 use Rattle.std.specs.Option.{option_map}
-use Rattle.std.specs.List.{prefix_len}
+use Rattle.std.specs.List.{prefix_len, list_all}
 use Rattle.std.specs.Char.{is_ascii_digit}
 use Rattle.lexing.specs.Blanks.{StopsAt}
-use Rattle.lexing.specs.Digits.{natural_at, natural_of, signed}
 use Rattle.lexing.specs.Tokens as lexing
 use Rattle.index_spec.specs.Words.{spelling, word_of}
 use Rattle.index_spec.specs.declared.token.NoToken.{NoToken}
@@ -22,9 +21,17 @@ in_word b = is_letter b || b == 45
 
 -- ---- numbers
 
+-- the number that the digits write, after those that wrote n
+abbrev pub value_from : ℕ → List ℕ → ℕ
+value_from n [] = n
+value_from n (d ∷ ds) = value_from (n * 10 + (d - 48)) ds
+
 -- a magnitude is told up to 2^64, which passes each limit on numbers
-abbrev pub magnitude : ℕ → ℕ
-magnitude n = min n (2 ^ 64)
+abbrev pub magnitude : List ℕ → ℕ
+magnitude digits = min (value_from 0 digits) (2 ^ 64)
+
+abbrev pub signed : Bool → ℕ → ℤ
+signed is_negative n = if is_negative then neg_ℤ (pos n) else pos n
 
 -- ---- what a text spells
 
@@ -36,10 +43,10 @@ minus false = []
 pub record IsNumeral (form : List ℕ) (z : ℤ) : Type 0 where
   pub is_negative : Bool
   pub digits : List ℕ
-  pub number : ℕ
   pub written : form ≡ minus is_negative ++ digits
-  pub natural : natural_of digits ≡ Some number
-  pub value : z ≡ signed is_negative (magnitude number)
+  pub all_digits : list_all is_ascii_digit digits ≡ true
+  pub some_digit : 0 < length digits
+  pub value : z ≡ signed is_negative (magnitude digits)
 
 -- the form of a token
 abbrev pub IsWritten : List ℕ → Token → Type 0
@@ -87,7 +94,9 @@ word_at text =
     option_map (λ w. (t.Word w, drop n text)) (word_of (take n text))
 
 unfoldable pub number_at : Bool → List ℕ → Option (Token × List ℕ)
-number_at is_negative text = option_map (λ found. (t.Number (signed is_negative (magnitude found.0)), found.1)) (natural_at text)
+number_at is_negative text =
+    let n = prefix_len is_ascii_digit text in
+    if n == 0 then None else Some (t.Number (signed is_negative (magnitude (take n text))), drop n text)
 
 -- the token at the front, and what follows it
 unfoldable pub token_at : List ℕ → Option (Token × List ℕ)

@@ -4,12 +4,11 @@ ghost use Rattle.std.specs.Prelude.{◌≡◌, ◌≤◌, ◌^◌, length, IfOk}
 ghost use Rattle.std.specs.Option.{option_map};
 ghost use Rattle.std.specs.List.{prefix_len};
 ghost use Rattle.std.specs.Char.{is_ascii_digit};
-ghost use Rattle.lexing.specs.Digits.{signed};
-ghost use Rattle.index_spec.specs.Tokens.{is_letter, in_word, sign_of, word_at, number_at, reader, token_at, tokens_of};
+ghost use Rattle.index_spec.specs.Tokens.{is_letter, in_word, sign_of, magnitude, signed, word_at, number_at, reader, token_at, tokens_of};
 ghost use Rattle.index_spec.specs.Shorter.{reader-shorter};
 
 use crate::word::{Word, word_of};
-use lexing::{Lexeme, natural_at};
+use lexing::Lexeme;
 use sqlite_items::Items;
 use std::alloc::{AllocError, Global};
 
@@ -61,8 +60,27 @@ fn word_len(text: &[u8]) -> usize
     text.iter().take_while(|b| in_word(**b)).count()
 }
 
+fn digits_len(text: &[u8]) -> usize
+    ensures value { result ≡ prefix_len is_ascii_digit text.now }
+    ensures within { result ≤ length text.now }
+{
+    text.iter().take_while(|b| b.is_ascii_digit()).count()
+}
+
 /// Where magnitudes are cut off: no number of a specification reaches it.
 const MAX_MAGNITUDE: u128 = 1 << 64;
+
+/// The number that the digits write, at most 2^64.
+fn magnitude(digits: &[u8]) -> u128
+    ensures { result ≡ magnitude digits.now }
+{
+    let mut value: u128 = 0;
+    for digit in digits {
+        let more = value * 10 + u128::from(digit.saturating_sub(b'0'));
+        value = more.min(MAX_MAGNITUDE);
+    }
+    value
+}
 
 fn signed(is_negative: bool, magnitude: u128) -> i128
     requires { magnitude ≤ 2 ^ 64 }
@@ -89,11 +107,12 @@ fn word_at(text: &[u8]) -> Option<(Token, &[u8])>
 fn number_at(is_negative: bool, text: &[u8]) -> Option<(Token, &[u8])>
     ensures { option_map (λ found. (found.0, found.1.now)) result ≡ number_at is_negative text.now }
 {
-    let (number, rest) = natural_at(text)?;
-    Some((
-        Token::Number(signed(is_negative, number.min(MAX_MAGNITUDE))),
-        rest,
-    ))
+    let len = digits_len(text);
+    if len == 0 {
+        return None;
+    }
+    let (front, rest) = text.split_at(len);
+    Some((Token::Number(signed(is_negative, magnitude(front))), rest))
 }
 
 /// The token at the front, which is no blank, and what follows it.

@@ -1,11 +1,11 @@
 -- What a text spells, by the relation and by the function.
-use Rattle.std.proofs.Common.{◌≡◌, ℕ, zero, suc, ◌-◌, ◌≤◌, true, false, List, [], ◌∷◌, ◌++◌, length, refl, ap, subst, ◌∙◌, inl, inr, arith}
+use Rattle.std.proofs.Common.{◌≡◌, ℕ, zero, suc, ◌-◌, ◌≤◌, true, false, List, [], ◌∷◌, ◌++◌, length, refl, sym, ap, subst, ◌∙◌, inl, inr, arith}
 use Rattle.std.specs.Prelude.{Result, Ok, Err}
 use Rattle.std.specs.List.{list_all}
 use Rattle.lexing.specs.Blanks.{is_blank}
 use Rattle.lexing.specs.Tokens.{BeginsWith, Spells, Front, StopsWith, put_first, followed, tokens_within, tokens_from}
 use Rattle.lexing.proofs.Cases.{chosen}
-use Rattle.std.proofs.lemmas.Bool.{and_from, and_parts}
+use Rattle.lexing.proofs.Runs.{and_parts, and_both}
 use Rattle.lexing.proofs.Steps.{Reader, Shortens, tokens_from-blank, tokens_from-empty, tokens_from-found, tokens_from-wrong}
 
 -- what the reader finds is a token, and each token is what it finds
@@ -27,10 +27,10 @@ IsComplete {T} {F} read IsToken = (at : ℕ) (text : List ℕ) (token : T) (rest
 
 -- a blank before a text leaves its tokens
 pub blank_before : {T : Type 0} (IsToken : ℕ → List ℕ → T → List ℕ → Type 0) (size b : ℕ) (bs : List ℕ) (ts : List T) → is_blank b ≡ true → Spells IsToken size bs ts → Spells IsToken size (b ∷ bs) ts
-blank_before IsToken size b bs [] blank spells = and_from (is_blank b) (list_all is_blank bs) blank spells
+blank_before IsToken size b bs [] blank spells = and_both (is_blank b) (list_all is_blank bs) blank spells
 blank_before IsToken size b bs (token ∷ ts) blank spells =
     let at = spells.1.0 in
-    (spells.0, (record { blanks = b ∷ at.blanks; behind = at.behind; cut = ap (λ x. b ∷ x) at.cut; all_blank = and_from (is_blank b) (list_all is_blank at.blanks) blank at.all_blank; here = at.here }, spells.1.1))
+    (spells.0, (record { blanks = b ∷ at.blanks; behind = at.behind; cut = ap (λ x. b ∷ x) at.cut; all_blank = and_both (is_blank b) (list_all is_blank at.blanks) blank at.all_blank; here = at.here }, spells.1.1))
 
 pub token_before : {T : Type 0} (IsToken : ℕ → List ℕ → T → List ℕ → Type 0) (size : ℕ) (text : List ℕ) (token : T) (rest : List ℕ) (ts : List T) → IsToken (size - length text) text token rest → Spells IsToken size rest ts → Spells IsToken size text (token ∷ ts)
 token_before IsToken size text token rest ts here spells =
@@ -110,10 +110,10 @@ IsRefused {T} {F} read IsWrong = (at b : ℕ) (bs : List ℕ) (fault : F) → is
 blank_stops : {T F : Type 0} (IsToken : ℕ → List ℕ → T → List ℕ → Type 0) (IsWrong : List ℕ → F → Type 0) (size b : ℕ) (bs : List ℕ) (ts : List T) (more : List ℕ) (fault : F) → is_blank b ≡ true → Front IsToken size bs ts more
     → (blanks : List ℕ) (first : ℕ) (others : List ℕ) → more ≡ blanks ++ (first ∷ others) → list_all is_blank blanks ≡ true → is_blank first ≡ false → IsWrong (first ∷ others) fault → StopsWith IsToken IsWrong size (b ∷ bs) fault
 blank_stops IsToken IsWrong size b bs [] more fault blank front blanks first others cut all visible wrong =
-    record { tokens = []; more = b ∷ bs; front = refl; blanks = b ∷ blanks; first = first; others = others; cut = ap (λ x. b ∷ x) (front ∙ cut); all_blank = and_from (is_blank b) (list_all is_blank blanks) blank all; visible = visible; wrong = wrong }
+    record { tokens = []; more = b ∷ bs; front = refl; blanks = b ∷ blanks; first = first; others = others; cut = ap (λ x. b ∷ x) (front ∙ cut); all_blank = and_both (is_blank b) (list_all is_blank blanks) blank all; visible = visible; wrong = wrong }
 blank_stops IsToken IsWrong size b bs (token ∷ ts) more fault blank front blanks first others cut all visible wrong =
     let at = front.1.0 in
-    let begins : BeginsWith IsToken size (b ∷ bs) token front.0 = record { blanks = b ∷ at.blanks; behind = at.behind; cut = ap (λ x. b ∷ x) at.cut; all_blank = and_from (is_blank b) (list_all is_blank at.blanks) blank at.all_blank; here = at.here } in
+    let begins : BeginsWith IsToken size (b ∷ bs) token front.0 = record { blanks = b ∷ at.blanks; behind = at.behind; cut = ap (λ x. b ∷ x) at.cut; all_blank = and_both (is_blank b) (list_all is_blank at.blanks) blank at.all_blank; here = at.here } in
     record { tokens = token ∷ ts; more = more; front = (front.0, (begins, front.1.1)); blanks = blanks; first = first; others = others; cut = cut; all_blank = all; visible = visible; wrong = wrong }
 
 wrong_spells : {T F : Type 0} (IsToken : ℕ → List ℕ → T → List ℕ → Type 0) (IsWrong : List ℕ → F → Type 0) (size b : ℕ) (bs : List ℕ) (fault : F) → is_blank b ≡ true → StopsWith IsToken IsWrong size bs fault → StopsWith IsToken IsWrong size (b ∷ bs) fault

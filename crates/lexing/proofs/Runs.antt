@@ -1,7 +1,5 @@
 -- The longest front whose elements pass a test.
-use Rattle.std.proofs.Common.{◌≡◌, ℕ, suc, ◌+◌, ◌-◌, ◌≤◌, ◌<◌, Bool, true, false, cond, List, [], ◌∷◌, ◌++◌, length, take, drop, refl, ap, arith, eqb, length-drop}
-use Rattle.std.proofs.lemmas.Bool.{and_from, and_parts}
-use Rattle.std.proofs.lemmas.Bool.Decides.{nat_tests}
+use Rattle.std.proofs.Common.{◌≡◌, ℕ, suc, ◌+◌, Bool, true, false, cond, ◌&&◌, List, [], ◌∷◌, ◌++◌, length, take, drop, refl, arith}
 use Rattle.std.specs.List.{prefix_len, list_all}
 use Rattle.lexing.specs.Blanks.{StopsAt}
 
@@ -9,19 +7,27 @@ at_test : (p : ℕ → Bool) (b : ℕ) (bs : List ℕ) (test : Bool) → p b ≡
 at_test p b bs true e all = rw (e, all) refl
 at_test p b bs false e all = rw e refl
 
+-- `p b ∧ rest`, as the cons of a test
+pub and_parts : (x y : Bool) → (x && y) ≡ true → (x ≡ true) × (y ≡ true)
+and_parts true y e = (refl, e)
+and_parts false y e = cc
+
+pub and_both : (x y : Bool) → x ≡ true → y ≡ true → (x && y) ≡ true
+and_both x y e f = rw (e, f) refl
+
 -- what holds of each element of a list holds of each of both parts
 pub all_append : (p : ℕ → Bool) (xs ys : List ℕ) → list_all p (xs ++ ys) ≡ true → (list_all p xs ≡ true) × (list_all p ys ≡ true)
 all_append p [] ys e = (refl, e)
 all_append p (x ∷ xs) ys e =
     let parts = and_parts (p x) (list_all p (xs ++ ys)) e in
     let more = all_append p xs ys parts.1 in
-    (and_from (p x) (list_all p xs) parts.0 more.0, more.1)
+    (and_both (p x) (list_all p xs) parts.0 more.0, more.1)
 
 pub append_all : (p : ℕ → Bool) (xs ys : List ℕ) → list_all p xs ≡ true → list_all p ys ≡ true → list_all p (xs ++ ys) ≡ true
 append_all p [] ys e f = f
 append_all p (x ∷ xs) ys e f =
     let parts = and_parts (p x) (list_all p xs) e in
-    and_from (p x) (list_all p (xs ++ ys)) parts.0 (append_all p xs ys parts.1 f)
+    and_both (p x) (list_all p (xs ++ ys)) parts.0 (append_all p xs ys parts.1 f)
 
 front_step : (p : ℕ → Bool) (b : ℕ) (bs : List ℕ) (test : Bool) → p b ≡ test → list_all p (take (prefix_len p bs) bs) ≡ true → list_all p (take (cond test (1 + prefix_len p bs) 0) (b ∷ bs)) ≡ true
 front_step p b bs true e all = let n : 1 + prefix_len p bs ≡ suc (prefix_len p bs) = omega arith in rw (n, e, all) refl
@@ -52,10 +58,3 @@ prefix_len-cut p (b ∷ bs) rest all stops =
     let head : p b ≡ true = parts.0 in
     let n : 1 + length bs ≡ suc (length bs) = omega arith in
     rw (head, more) n
-
--- a front of some bytes leaves a shorter rest
-pub dropped_less : (n : ℕ) (text rest : List ℕ) → eqb n 0 ≡ false → n ≤ length text → drop n text ≡ rest → length rest < length text
-dropped_less n text rest some within e =
-    let same : length (drop n text) ≡ length rest = ap length e in
-    let cut : length (drop n text) ≡ length text - n = length-drop n text in
-    grind (arith, nat_tests)

@@ -9,14 +9,12 @@ use Rattle.std.proofs.lemmas.Bool.{lt-ltb, le-ltb, ltb-true, ltb-false}
 use Rattle.std.proofs.lemmas.List.{length-take-le, take_all}
 use Rattle.std.proofs.lemmas.Slice.Eq.{bytes_eq-Decides}
 use Rattle.std.proofs.Math.Dec.{eqb-suc-zero}
-use Rattle.text_column.specs.Words.{IsWord, IsDictionary, code_in, word_in, with_word, first_seen, most_words}
+use Rattle.text_column.specs.Words.{IsWord, IsDictionary, code_in, word_in, with_word, first_seen}
 use Rattle.text_column.specs.DictionaryFile.{IsCutOff, word_bytes, words_bytes, dictionary_bytes, size_at, count_at, sized_at, word_at, taken, taken_as, with_rest, next_in, to_its_end, and_then, words_in, counted_in, dictionary_in}
-use Rattle.answers.specs.Answers.{Answers, Tells}
-use Rattle.text_column.specs.OpenedDictionary.{told_by_file}
+use Rattle.text_column.specs.OpenedDictionary.{OpensWords, Says}
 use Rattle.text_column.specs.declared.fault.DicFault.{DicFault}
 use Rattle.text_column.specs.declared.fault.DicFault.TheVariants.{Short, TooMany, Empty, Repeated, Trailing, Missing, Store, OutOfMemory}
-use Rattle.column_file.proofs.NumberLemmas.{AreBytes, AreBytes-take, AreBytes-drop}
-use Rattle.text_column.proofs.NumberLemmas.{wide_16, wide_32, number_front, number_rest, number_spelled}
+use Rattle.text_column.proofs.NumberLemmas.{AreBytes, AreBytes-take, AreBytes-drop, wide_16, wide_32, number_front, number_rest, number_spelled}
 use Rattle.text_column.proofs.WordLemmas.{was_there, other_way, bytes_same, no_words, dictionary_with}
 
 repeated_as : (words : List (List ℕ)) (word : List ℕ) → 0 < length word → list_any (bytes_eq word) words ≡ true
@@ -38,7 +36,7 @@ new_as words (b ∷ bs) some new = ap (λ x. cond x (Err (Repeated (length words
 
 -- what stops at the next word stops the whole
 pub stops_next : (fault : DicFault) (next : Result (List (List ℕ) × List ℕ) DicFault) (go : List (List ℕ) × List ℕ → Result (List (List ℕ)) DicFault)
-    (given : Result (List (List ℕ)) DicFault) → given ≡ and_then next go → Tells told_by_file (λ told. next ≡ Err told) fault → Answers told_by_file (Err fault) given
+    (given : Result (List (List ℕ)) DicFault) → given ≡ and_then next go → Says fault (next ≡ Err fault) → OpensWords (Err fault) given
 stops_next Short next go given is h = is ∙ ap (λ r. and_then r go) h
 stops_next TooMany next go given is h = is ∙ ap (λ r. and_then r go) h
 stops_next (Empty code) next go given is h = is ∙ ap (λ r. and_then r go) h
@@ -176,13 +174,13 @@ dictionary_again words h =
     ap (λ b. cond b (Err Short) (counted_in (count_at whole) (drop 4 whole))) (le-ltb (length whole) 4 four)
     ∙ ap (λ c. counted_in c (drop 4 whole)) (number_front w32 4 wide_32 n rest fits)
     ∙ ap (counted_in n) (number_rest w32 4 wide_32 n rest)
-    ∙ ap (λ b. cond b (Err TooMany) (words_in n ([], rest))) (le-ltb most_words n few)
+    ∙ ap (λ b. cond b (Err TooMany) (words_in n ([], rest))) (le-ltb 4194304 n few)
     ∙ words_read [] words h
 
 -- what is spelled as a dictionary is opened as that dictionary
-pub opens_spelled : (opened : Result (List (List ℕ)) DicFault) (bytes : List ℕ) (words : List (List ℕ)) → Answers told_by_file opened (dictionary_in bytes)
-    → IsDictionary words → bytes ≡ dictionary_bytes words → Answers told_by_file opened (Ok words)
-opens_spelled opened bytes words h valid is = subst (Answers told_by_file opened) (ap dictionary_in is ∙ dictionary_again words valid) h
+pub opens_spelled : (opened : Result (List (List ℕ)) DicFault) (bytes : List ℕ) (words : List (List ℕ)) → OpensWords opened (dictionary_in bytes)
+    → IsDictionary words → bytes ≡ dictionary_bytes words → OpensWords opened (Ok words)
+opens_spelled opened bytes words h valid is = subst (OpensWords opened) (ap dictionary_in is ∙ dictionary_again words valid) h
 
 -- ---- the loop that writes
 
@@ -281,13 +279,13 @@ choice_longer : (b : Bool) (words : List (List ℕ)) (word : List ℕ) → lengt
 choice_longer true words word = omega arith
 choice_longer false words word = omega (arith, length-append words (word ∷ []))
 
-seen_from : (done words : List (List ℕ)) → IsDictionary done → AllByRecursion IsWord words → length done + length words ≤ most_words → IsDictionary (fold with_word done words)
+seen_from : (done words : List (List ℕ)) → IsDictionary done → AllByRecursion IsWord words → length done + length words ≤ 4194304 → IsDictionary (fold with_word done words)
 seen_from done [] h each room = h
 seen_from done (w ∷ ws) h each room =
     let longer = choice_longer (list_any (bytes_eq w) done) done w in
     seen_from (with_word done w) ws (dictionary_with done w h each.0 (omega arith)) each.1 (omega arith)
 
-pub seen_dictionary : (words : List (List ℕ)) → AllByRecursion IsWord words → length words ≤ most_words → IsDictionary (first_seen words)
+pub seen_dictionary : (words : List (List ℕ)) → AllByRecursion IsWord words → length words ≤ 4194304 → IsDictionary (first_seen words)
 seen_dictionary words each few = seen_from [] words no_words each (omega arith)
 
 rest_as : (r : List ℕ) (t : Result (List (List ℕ)) DicFault) (more : List (List ℕ)) (rest : List ℕ) → with_rest r t ≡ Ok (more, rest) → t ≡ Ok more

@@ -3,14 +3,12 @@ use Rattle.std.proofs.Common.{◌≡◌, inl, inr, ℕ, zero, suc, ◌+◌, ◌<
 use mir.Syntax.{w32}
 use Rattle.std.specs.Int.{to_le_bytes}
 use Rattle.std.proofs.lemmas.Bool.{ltb-true, ltb-false}
-use Rattle.text_column.specs.Words.{IsDictionary, most_words}
+use Rattle.text_column.specs.Words.{IsDictionary}
 use Rattle.text_column.specs.DictionaryFile.{Begins, IsFaultOf, word_bytes, words_bytes, dictionary_bytes, count_at, and_then, words_in, counted_in, dictionary_in}
-use Rattle.answers.specs.Answers.{Answers}
-use Rattle.text_column.specs.OpenedDictionary.{told_by_file}
+use Rattle.text_column.specs.OpenedDictionary.{OpensWords}
 use Rattle.text_column.specs.declared.fault.DicFault.{DicFault}
 use Rattle.text_column.specs.declared.fault.DicFault.TheVariants.{Short, TooMany}
-use Rattle.column_file.proofs.NumberLemmas.{AreBytes, AreBytes-drop}
-use Rattle.text_column.proofs.NumberLemmas.{wide_32, number_spelled}
+use Rattle.text_column.proofs.NumberLemmas.{AreBytes, AreBytes-drop, wide_32, number_spelled}
 use Rattle.text_column.proofs.WordLemmas.{no_words, dictionary-append}
 use Rattle.text_column.proofs.DictionaryLemmas.{next_word}
 use Rattle.text_column.proofs.DictionaryLemmas.Next.{Cut, None_in, Again, New}
@@ -64,12 +62,12 @@ found_words bytes count (suc n) done rest are all h =
 
 found_counted : (bytes : List ℕ) → AreBytes bytes → 4 ≤ length bytes → Found bytes [] (counted_in (count_at bytes) (drop 4 bytes))
 found_counted bytes are four =
-    elim (nat_lt most_words (count_at bytes)) as (λ b. nat_lt most_words (count_at bytes) ≡ b → Found bytes [] (cond b (Err TooMany) (words_in (count_at bytes) ([], drop 4 bytes)))) [
-      | true ↦ λ e. (four, ltb-true most_words (count_at bytes) e)
+    elim (nat_lt 4194304 (count_at bytes)) as (λ b. nat_lt 4194304 (count_at bytes) ≡ b → Found bytes [] (cond b (Err TooMany) (words_in (count_at bytes) ([], drop 4 bytes)))) [
+      | true ↦ λ e. (four, ltb-true 4194304 (count_at bytes) e)
       | false ↦ λ e.
           let all : 0 + count_at bytes ≡ count_at bytes = omega arith in
           found_words bytes (count_at bytes) (count_at bytes) [] (drop 4 bytes) (AreBytes-drop 4 bytes are) all
-          (record { is = number_spelled w32 4 wide_32 bytes are four; dictionary = no_words; limit = ltb-false most_words (count_at bytes) e })
+          (record { is = number_spelled w32 4 wide_32 bytes are four; dictionary = no_words; limit = ltb-false 4194304 (count_at bytes) e })
     ] refl
 
 -- the whole file
@@ -87,7 +85,7 @@ found_dictionary bytes words are h = subst (Found bytes []) h (found_in bytes ar
 pub found_fault : (bytes : List ℕ) (fault : DicFault) → AreBytes bytes → dictionary_in bytes ≡ Err fault → IsFaultOf bytes fault
 found_fault bytes fault are h = subst (Found bytes []) h (found_in bytes are)
 
-pub found_result : (bytes : List ℕ) (result : Result (List (List ℕ)) DicFault) → AreBytes bytes → Answers told_by_file result (dictionary_in bytes)
+pub found_result : (bytes : List ℕ) (result : Result (List (List ℕ)) DicFault) → AreBytes bytes → OpensWords result (dictionary_in bytes)
     → IfOk result (λ words. bytes ≡ dictionary_bytes words)
 found_result bytes (Ok words) are h = (found_dictionary bytes words are h).1
 found_result bytes (Err fault) are h = tt

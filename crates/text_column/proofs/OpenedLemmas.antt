@@ -5,21 +5,19 @@ use Rattle.std.proofs.lemmas.List.{length-take-le}
 use Rattle.fb_outside.specs.Files.{Files, file_at, told_at, bytes_at}
 use Rattle.fb_outside.specs.Reads.{Look, AddsOnly}
 use Rattle.fb_outside.proofs.ReadLemmas.{AddsOnly-trans, AddsOnly-weaken}
-use Rattle.answers.specs.Answers.{Answers}
-use Rattle.wah_words.specs.Limits.{most_bits}
-use Rattle.text_column.specs.OpenedTexts.{listed, unless_wrong, placed_in, starts_in, and_mask, with_starts, masked, text_in, parted_by, read_in, told_by_files}
+use Rattle.text_column.specs.OpenedTexts.{IsAnswer, listed, unless_wrong, placed_in, starts_in, and_mask, with_starts, masked, text_in, parted_by, read_in}
 use Rattle.text_column.specs.Texts.{text_file, starts_of, starts_bytes, starts_at, first_wrong, texts_at, starts_between, size_between}
 use Rattle.wah_words.specs.Bytes.{spelling}
 use Rattle.column_file.specs.Opening.{mask_in}
 use Rattle.column_file.proofs.OpeningLemmas.{spelled_to_end}
-use Rattle.column_file.proofs.NumberLemmas.{AreBytes}
+use Rattle.text_column.proofs.NumberLemmas.{AreBytes}
 use Rattle.text_column.proofs.TextLemmas.{length-starts, length-starts_bytes, starts_small, starts_again, starts_rise, last_start, starts_spelled, parts_of, start_of_row, starts_order, front_fits, rows_parted}
 use Rattle.text_column.specs.declared.fault.TextFault.{TextFault}
 use Rattle.text_column.specs.declared.fault.TextFault.TheVariants.{Missing, StartsMissing, StartsLength, NotRising, LastStart, ShortRead, Mask, Store, OutOfMemory}
 
 -- a fault that is handed on
 pub handed_on : {T U : Type 0} (fault : TextFault) (given : Result T TextFault) (go : Result T TextFault → Result U TextFault)
-    → ((f : TextFault) → go (Err f) ≡ Err f) → Answers told_by_files (Err fault) given → Answers told_by_files (Err fault) (go given)
+    → ((f : TextFault) → go (Err f) ≡ Err f) → IsAnswer (Err fault) given → IsAnswer (Err fault) (go given)
 handed_on Missing given go keeps h = ap go h ∙ keeps Missing
 handed_on StartsMissing given go keeps h = ap go h ∙ keeps StartsMissing
 handed_on (StartsLength want have) given go keeps h = ap go h ∙ keeps (StartsLength want have)
@@ -53,7 +51,7 @@ looks_both P Q old mid new h k =
 
 -- ---- what is written is opened
 
-pub opened_again : (texts : List (List ℕ)) (bits : List Bool) → length bits ≡ length texts → length bits ≤ most_bits → length (text_file texts) < 2 ^ 64
+pub opened_again : (texts : List (List ℕ)) (bits : List Bool) → length bits ≡ length texts → length bits ≤ 4194304 → length (text_file texts) < 2 ^ 64
     → text_in (length texts) (Some (text_file texts)) (Some (starts_bytes (starts_of texts))) (Some (spelling bits)) ≡ Ok (starts_of texts, bits)
 opened_again texts bits rows limit small =
     let starts = starts_of texts in
@@ -71,13 +69,13 @@ opened_again texts bits rows limit small =
     ∙ ap (λ r. with_starts starts (masked r)) (spelled_to_end (length texts) bits rows limit)
 
 pub opens_texts : (files : Option Files) (opened : Result (List ℕ × List Bool) TextFault) (name starts_name mask_name : List ℕ) (rows : ℕ) (texts : List (List ℕ)) (bits : List Bool)
-    → IfSome files (λ m. Answers told_by_files opened (text_in rows (file_at m name) (file_at m starts_name) (file_at m mask_name)))
-    → length texts ≡ rows → length bits ≡ rows → length bits ≤ most_bits → length (text_file texts) < 2 ^ 64
+    → IfSome files (λ m. IsAnswer opened (text_in rows (file_at m name) (file_at m starts_name) (file_at m mask_name)))
+    → length texts ≡ rows → length bits ≡ rows → length bits ≤ 4194304 → length (text_file texts) < 2 ^ 64
     → told_at files name ≡ Some (text_file texts) → told_at files starts_name ≡ Some (starts_bytes (starts_of texts)) → told_at files mask_name ≡ Some (spelling bits)
-    → Answers told_by_files opened (Ok (starts_of texts, bits))
+    → IsAnswer opened (Ok (starts_of texts, bits))
 opens_texts None opened name starts_name mask_name rows texts bits h size one_each limit small text starts mask = absurd (cc)
 opens_texts (Some m) opened name starts_name mask_name rows texts bits h size one_each limit small text starts mask =
-    subst (Answers told_by_files opened)
+    subst (IsAnswer opened)
     (ap (λ n. text_in n (file_at m name) (file_at m starts_name) (file_at m mask_name)) (sym size)
     ∙ ap (λ a. text_in (length texts) a (file_at m starts_name) (file_at m mask_name)) text
     ∙ ap (λ a. text_in (length texts) (Some (text_file texts)) a (file_at m mask_name)) starts
@@ -122,24 +120,24 @@ starts_found rows text bytes starts are h =
 -- over a file that has the bytes, none are missing
 pub none_missing : (files : Option Files) (name bytes : List ℕ) (at want : ℕ) (starts : List ℕ) (answered : Result (List (List ℕ)) TextFault)
     → told_at files name ≡ Some bytes → at + want ≤ length bytes
-    → IfSome files (λ m. Answers told_by_files answered (read_in want starts (bytes_at m name at want))) → answered ≡ Err ShortRead → ⊥
+    → IfSome files (λ m. IsAnswer answered (read_in want starts (bytes_at m name at want))) → answered ≡ Err ShortRead → ⊥
 none_missing None name bytes at want starts answered told room h is = absurd (cc)
 none_missing (Some m) name bytes at want starts answered told room h is =
-    let given : read_in want starts (bytes_at m name at want) ≡ Err ShortRead = subst (λ a. Answers told_by_files a (read_in want starts (bytes_at m name at want))) is h in
+    let given : read_in want starts (bytes_at m name at want) ≡ Err ShortRead = subst (λ a. IsAnswer a (read_in want starts (bytes_at m name at want))) is h in
     let there : bytes_at m name at want ≡ take want (drop at bytes) = ap (λ o. take want (drop at (unwrap_or o []))) told in
     let size : length (bytes_at m name at want) ≡ want = ap length there ∙ length-take-le want (drop at bytes) (omega (arith, length-drop at bytes, room)) in
     let read : read_in want starts (bytes_at m name at want) ≡ Ok (texts_at starts (bytes_at m name at want)) =
     ap (λ b. parted_by starts (cond b (Ok (bytes_at m name at want)) (Err ShortRead))) (eq-eqb (length (bytes_at m name at want)) want size) in
     cc
 
-answer_ok : (answered given : Result (List (List ℕ)) TextFault) (want : List (List ℕ)) → Answers told_by_files answered given → given ≡ Ok want → IfOk answered (λ texts. texts ≡ want)
+answer_ok : (answered given : Result (List (List ℕ)) TextFault) (want : List (List ℕ)) → IsAnswer answered given → given ≡ Ok want → IfOk answered (λ texts. texts ≡ want)
 answer_ok (Ok texts) given want h is = let both : Ok want ≡ Ok texts = sym is ∙ h in let same : want ≡ texts = cc in sym same
 answer_ok (Err fault) given want h is = tt
 
 -- over the bytes of texts the rows are those
 pub rows_read : (files : Option Files) (name : List ℕ) (texts : List (List ℕ)) (starts : List ℕ) (first end : ℕ) (answered : Result (List (List ℕ)) TextFault)
     → starts ≡ starts_of texts → told_at files name ≡ Some (text_file texts) → first ≤ end → end < length starts
-    → IfSome files (λ m. Answers told_by_files answered (read_in (size_between starts first end) (starts_between starts first end) (bytes_at m name (get_or starts first 0) (size_between starts first end))))
+    → IfSome files (λ m. IsAnswer answered (read_in (size_between starts first end) (starts_between starts first end) (bytes_at m name (get_or starts first 0) (size_between starts first end))))
     → IfOk answered (λ read. read ≡ take (end - first) (drop first texts))
 rows_read None name texts starts first end answered is told order within h = absurd (cc)
 rows_read (Some m) name texts starts first end answered is told order within h =
@@ -159,7 +157,7 @@ rows_read (Some m) name texts starts first end answered is told order within h =
     ap (λ b. parted_by rows (cond b (Ok bytes) (Err ShortRead))) (eq-eqb (length bytes) want size)
     ∙ ap (λ b. Ok (texts_at rows b)) there ∙ ap (λ ts. Ok ts) (rows_parted texts first end order inside) in
     answer_ok answered (read_in want rows bytes) (take (end - first) (drop first texts))
-    (subst (λ ss. Answers told_by_files answered (read_in (size_between ss first end) (starts_between ss first end) (bytes_at m name (get_or ss first 0) (size_between ss first end)))) is h) read
+    (subst (λ ss. IsAnswer answered (read_in (size_between ss first end) (starts_between ss first end) (bytes_at m name (get_or ss first 0) (size_between ss first end)))) is h) read
 
 pub ok_listed : {X A : Type 0} (answered : Result (Vec X A) TextFault) (P : List X → Type 0) → IfOk (listed answered) P → IfOk answered (λ items. P items.items)
 ok_listed (Ok items) P h = h

@@ -3,12 +3,11 @@ use Rattle.std.proofs.Common.{◌≡◌, ℕ, zero, suc, ◌+◌, ◌-◌, ◌*�
 use mir.Syntax.{w64}
 use Rattle.std.specs.Int.{to_le_bytes, from_le_bytes}
 use Rattle.std.specs.List.{AllByRecursion}
-use Rattle.std.proofs.Math.Seq.{take-append_seam, drop-append_seam}
+use Rattle.std.proofs.Math.Seq.{take-append_seam, drop-append_seam, take-suc}
 use Rattle.std.proofs.lemmas.Bool.{le-ltb, ltb-false, eqb-true}
 use Rattle.std.proofs.lemmas.List.{length-take-le, take_all, drop-drop}
 use Rattle.text_column.specs.Texts.{text_file, starts_from, starts_of, starts_bytes, starts_at, first_below, first_wrong, texts_at, AreWithin, starts_between, size_between}
-use Rattle.column_file.proofs.NumberLemmas.{AreBytes, AreBytes-drop}
-use Rattle.text_column.proofs.NumberLemmas.{wide_64, number_front, number_rest, number_spelled}
+use Rattle.text_column.proofs.NumberLemmas.{AreBytes, AreBytes-drop, wide_64, number_front, number_rest, number_spelled}
 
 -- ---- the loop that writes
 
@@ -16,8 +15,15 @@ text_file-append : (texts more : List (List ℕ)) → text_file (texts ++ more) 
 text_file-append [] more = refl
 text_file-append (t ∷ ts) more = ap (λ r. t ++ r) (text_file-append ts more) ∙ sym (append_assoc t (text_file ts) (text_file more))
 
-pub text_pushed : (texts : List (List ℕ)) (text : List ℕ) → text_file (texts ++ text ∷ []) ≡ text_file texts ++ text
-text_pushed texts text = text_file-append texts (text ∷ []) ∙ ap (λ r. text_file texts ++ r) (append-nil text)
+item_at : (texts : List (List ℕ)) (i : ℕ) (text : List ℕ) → i < length texts → text ≡ get_or texts i text → take (i + 1) texts ≡ take i texts ++ text ∷ []
+item_at texts i text h is =
+    let one : i + 1 ≡ suc i = omega arith in
+    ap (λ n. take n texts) one ∙ take-suc texts i text h ∙ ap (λ t. take i texts ++ t ∷ []) (sym is)
+
+pub text_pushed : (texts : List (List ℕ)) (i : ℕ) (text : List ℕ) → i < length texts → text ≡ get_or texts i text
+    → text_file (take i texts) ++ text ≡ text_file (take (i + 1) texts)
+text_pushed texts i text h is =
+    ap (λ r. text_file (take i texts) ++ r) (sym (append-nil text)) ∙ sym (text_file-append (take i texts) (text ∷ [])) ∙ ap text_file (sym (item_at texts i text h is))
 
 starts_from-append : (at : ℕ) (texts : List (List ℕ)) (text : List ℕ)
     → starts_from at (texts ++ text ∷ []) ≡ starts_from at texts ++ (at + length (text_file (texts ++ text ∷ []))) ∷ []
@@ -34,13 +40,16 @@ unfolding starts_bytes
 starts_bytes-append [] start = append-nil (to_le_bytes w64 start)
 starts_bytes-append (s ∷ ss) start = ap (λ r. to_le_bytes w64 s ++ r) (starts_bytes-append ss start) ∙ sym (append_assoc (to_le_bytes w64 s) (starts_bytes ss) (to_le_bytes w64 start))
 
-pub starts_pushed : (texts : List (List ℕ)) (text : List ℕ) (size : ℕ) → size ≡ length (text_file (texts ++ text ∷ []))
-    → starts_bytes (starts_of (texts ++ text ∷ [])) ≡ starts_bytes (starts_of texts) ++ to_le_bytes w64 size
-starts_pushed texts text size all =
-    let sum : 0 + length (text_file (texts ++ text ∷ [])) ≡ size = sym (all ∙ omega arith) in
-    ap starts_bytes (starts_from-append 0 texts text)
-    ∙ ap (λ n. starts_bytes (starts_of texts ++ n ∷ [])) sum
-    ∙ starts_bytes-append (starts_of texts) size
+pub starts_pushed : (texts : List (List ℕ)) (i : ℕ) (text : List ℕ) (size : ℕ) → i < length texts → text ≡ get_or texts i text → size ≡ length (text_file (take (i + 1) texts))
+    → starts_bytes (starts_of (take i texts)) ++ to_le_bytes w64 size ≡ starts_bytes (starts_of (take (i + 1) texts))
+starts_pushed texts i text size h is all =
+    let next = take i texts ++ text ∷ [] in
+    let added = item_at texts i text h is in
+    let sum : size ≡ 0 + length (text_file next) = all ∙ ap (λ ts. length (text_file ts)) added ∙ omega arith in
+    sym (starts_bytes-append (starts_of (take i texts)) size)
+    ∙ ap (λ n. starts_bytes (starts_of (take i texts) ++ n ∷ [])) sum
+    ∙ ap starts_bytes (sym (starts_from-append 0 (take i texts) text))
+    ∙ ap (λ ts. starts_bytes (starts_of ts)) (sym added)
 
 pub first_start : starts_bytes (0 ∷ []) ≡ to_le_bytes w64 0
 unfolding starts_bytes

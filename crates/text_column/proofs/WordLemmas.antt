@@ -5,7 +5,7 @@ use Rattle.std.specs.Str.{bytes_eq}
 use Rattle.indexmap.specs.IndexSet.{insert_key}
 use Rattle.std.proofs.lemmas.Bool.{lt-ltb, le-ltb}
 use Rattle.std.proofs.lemmas.Slice.Eq.{bytes_eq-Decides}
-use Rattle.text_column.specs.Words.{IsWord, IsDictionary, code_in, with_word, most_words}
+use Rattle.text_column.specs.Words.{IsWord, IsDictionary, code_in, with_word}
 
 -- ---- keys as words
 
@@ -114,37 +114,12 @@ code_seen words word =
           ∙ ap (λ n. Some (n + 1)) (sym (place_past (bytes_eq word) words e))
     ] refl
 
-place-front : (p : List ℕ → Bool) (words : List (List ℕ)) (word : List ℕ) → list_any p words ≡ true
-    → position_or_len p (words ++ word ∷ []) ≡ position_or_len p words
-place-front p [] word h = absurd (cc)
-place-front p (w ∷ ws) word h =
-    elim (p w) as (λ b. (b || list_any p ws) ≡ true → cond (not b) (1 + position_or_len p (ws ++ word ∷ [])) 0 ≡ cond (not b) (1 + position_or_len p ws) 0) [
-      | true ↦ λ e. refl
-      | false ↦ λ e. ap (λ n. 1 + n) (place-front p ws word e)
-    ] h
-
 -- a word that isn't there has no code
 pub no_code : (words : List (List ℕ)) (word : List ℕ) → list_any (bytes_eq word) words ≡ false → code_in words word ≡ None
 no_code words word h =
     let past = place_past (bytes_eq word) words h in
     ap (λ b. option_map (λ k. k + 1) (cond b (Some (position_or_len (bytes_eq word) words)) None))
     (le-ltb (position_or_len (bytes_eq word) words) (length words) (omega arith))
-
--- a later word doesn't change an earlier one's code
-pub code_kept : (words : List (List ℕ)) (word new : List ℕ) (code : ℕ) → code_in words word ≡ Some code → code_in (with_word words new) word ≡ Some code
-code_kept words word new code is =
-    elim (list_any (bytes_eq new) words) as (λ b. code_in (cond b words (words ++ new ∷ [])) word ≡ Some code) [
-      | true ↦ is
-      | false ↦ behind (list_any (bytes_eq word) words) refl
-    ]
-  where
-    behind : (b : Bool) → list_any (bytes_eq word) words ≡ b → code_in (words ++ new ∷ []) word ≡ Some code
-    behind false e = let none : code_in words word ≡ None = no_code words word e in absurd (cc)
-    behind true e =
-        let within = place_within (bytes_eq word) words e in
-        let one_more : position_or_len (bytes_eq word) words < length (words ++ new ∷ []) = omega (arith, length-append words (new ∷ [])) in
-        code_at (words ++ new ∷ []) word (position_or_len (bytes_eq word) words) (place-front (bytes_eq word) words new e) one_more
-        ∙ sym (code_at words word (position_or_len (bytes_eq word) words) refl within) ∙ is
 
 -- ---- dictionaries
 
@@ -186,7 +161,7 @@ distinct-append (w ∷ ws) word h new = (
 )
 
 -- a new word behind those of a dictionary
-pub dictionary-append : (words : List (List ℕ)) (word : List ℕ) → IsDictionary words → IsWord word → length words < most_words
+pub dictionary-append : (words : List (List ℕ)) (word : List ℕ) → IsDictionary words → IsWord word → length words < 4194304
     → list_any (bytes_eq word) words ≡ false → IsDictionary (words ++ word ∷ [])
 dictionary-append words word h is room new = record {
   each = each-append words word h.each is;
@@ -194,7 +169,7 @@ dictionary-append words word h is room new = record {
   few = omega (arith, length-append words (word ∷ []), room);
 }
 
-pub dictionary_with : (words : List (List ℕ)) (word : List ℕ) → IsDictionary words → IsWord word → length words < most_words → IsDictionary (with_word words word)
+pub dictionary_with : (words : List (List ℕ)) (word : List ℕ) → IsDictionary words → IsWord word → length words < 4194304 → IsDictionary (with_word words word)
 dictionary_with words word h is room =
     elim (list_any (bytes_eq word) words) as (λ b. list_any (bytes_eq word) words ≡ b → IsDictionary (cond b words (words ++ word ∷ []))) [
       | true ↦ λ e. h

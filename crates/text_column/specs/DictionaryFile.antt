@@ -3,7 +3,7 @@ use Rattle.std.specs.Prelude.{◌≡◌, ◌<◌, ◌≤◌, ◌⊎◌, ◌+◌,
 use Rattle.std.specs.Int.{w16, w32, to_le_bytes, from_le_bytes}
 use Rattle.std.specs.List.{flat_map, list_any}
 use Rattle.std.specs.Str.{bytes_eq}
-use Rattle.text_column.specs.Words.{IsDictionary, most_words}
+use Rattle.text_column.specs.Words.{IsDictionary}
 use Rattle.text_column.specs.declared.fault.DicFault.{DicFault}
 use Rattle.text_column.specs.declared.fault.DicFault.TheVariants.{Short, TooMany, Empty, Repeated, Trailing, Missing, Store, OutOfMemory}
 
@@ -70,7 +70,7 @@ words_in zero state = to_its_end state
 words_in (suc n) state = and_then (next_in state.0 state.1) (words_in n)
 
 abbrev pub counted_in : ℕ → List ℕ → Result (List (List ℕ)) DicFault
-counted_in count bytes = if nat_lt most_words count then Err TooMany else words_in count ([], bytes)
+counted_in count bytes = if nat_lt 4194304 count then Err TooMany else words_in count ([], bytes)
 
 -- the words of a dictionary file with these bytes, or its first fault
 unfoldable pub dictionary_in : List ℕ → Result (List (List ℕ)) DicFault
@@ -82,7 +82,7 @@ dictionary_in bytes = if nat_lt (length bytes) 4 then Err Short else counted_in 
 pub record Begins (bytes : List ℕ) (count : ℕ) (words : List (List ℕ)) (rest : List ℕ) : Type 0 where
   pub is : bytes ≡ to_le_bytes w32 count ++ (words_bytes words ++ rest)
   pub dictionary : IsDictionary words
-  pub limit : count ≤ most_words
+  pub limit : count ≤ 4194304
 
 -- and a word is still to come
 abbrev pub BeginsMore : List ℕ → List (List ℕ) → List ℕ → Type 0
@@ -90,7 +90,7 @@ BeginsMore bytes words rest = (count : ℕ) × (length words < count) × Begins 
 
 abbrev pub IsFaultOf : List ℕ → DicFault → Type 0
 IsFaultOf bytes Short = (length bytes < 4) ⊎ ((words : List (List ℕ)) × (rest : List ℕ) × BeginsMore bytes words rest × IsCutOff rest)
-IsFaultOf bytes TooMany = (4 ≤ length bytes) × (most_words < count_at bytes)
+IsFaultOf bytes TooMany = (4 ≤ length bytes) × (4194304 < count_at bytes)
 IsFaultOf bytes (Empty code) =
     (words : List (List ℕ)) × (rest : List ℕ) × BeginsMore bytes words (word_bytes [] ++ rest) × (code ≡ length words + 1)
 IsFaultOf bytes (Repeated code) = (words : List (List ℕ)) × (word : List ℕ) × (rest : List ℕ)

@@ -3,4 +3,3 @@ pub mod DictionaryFile
 pub mod OpenedDictionary
 pub mod Texts
 pub mod OpenedTexts
-pub mod TextFiles

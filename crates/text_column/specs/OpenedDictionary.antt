@@ -9,11 +9,16 @@ abbrev pub dictionary_of : Option (List ℕ) → Result (List (List ℕ)) DicFau
 dictionary_of None = Err Missing
 dictionary_of (Some bytes) = dictionary_in bytes
 
--- what a fault tells of the file; want of memory and a failing store tell nothing
-abbrev pub told_by_file : DicFault → Option DicFault
-told_by_file Store = None
-told_by_file OutOfMemory = None
-told_by_file fault = Some fault
+-- what a fault says, unless the store failed or memory ran out
+abbrev pub Says : DicFault → Type 0 → Type 0
+Says Store fact = Unit {0}
+Says OutOfMemory fact = Unit {0}
+Says fault fact = fact
+
+-- What a call answered is what reading gives, unless the store failed or memory ran out.
+abbrev pub OpensWords : Result (List (List ℕ)) DicFault → Result (List (List ℕ)) DicFault → Type 0
+OpensWords (Ok words) given = given ≡ Ok words
+OpensWords (Err fault) given = Says fault (given ≡ Err fault)
 
 -- what reading bytes may answer: nothing that only a store can tell
 abbrev pub StopsReadingWords : DicFault → Type 0

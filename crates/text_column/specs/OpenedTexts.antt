@@ -8,11 +8,12 @@ use Rattle.text_column.specs.declared.text_ref.TextRef.{TextRef}
 use Rattle.text_column.specs.declared.fault.TextFault.{TextFault}
 use Rattle.text_column.specs.declared.fault.TextFault.TheVariants.{Missing, StartsMissing, StartsLength, NotRising, LastStart, ShortRead, Mask, Store, OutOfMemory}
 
--- what a fault tells of the files; want of memory and a failing store tell nothing
-abbrev pub told_by_files : TextFault → Option TextFault
-told_by_files Store = None
-told_by_files OutOfMemory = None
-told_by_files fault = Some fault
+-- What a call answered is what the files give, unless the store failed or memory ran out, which is answered as such.
+abbrev pub IsAnswer : {T : Type 0} → Result T TextFault → Result T TextFault → Type 0
+IsAnswer (Ok value) given = given ≡ Ok value
+IsAnswer (Err Store) given = Unit {0}
+IsAnswer (Err OutOfMemory) given = Unit {0}
+IsAnswer (Err fault) given = given ≡ Err fault
 
 -- what a vector holds
 abbrev pub listed : {X A : Type 0} → Result (Vec X A) TextFault → Result (List X) TextFault

@@ -6,15 +6,11 @@ use Rattle.std.specs.Str.{bytes_eq}
 abbrev pub IsWord : List ℕ → Type 0
 IsWord word = (1 ≤ length word) × (length word ≤ 65535)
 
--- the most words of a dictionary
-abbrev pub most_words : ℕ
-most_words = 4194304
-
 -- distinct words, of which each has a code
 pub record IsDictionary (words : List (List ℕ)) : Type 0 where
   pub each : AllByRecursion IsWord words
   pub distinct : IsDistinct bytes_eq words
-  pub few : length words ≤ most_words
+  pub few : length words ≤ 4194304
 
 -- the word's code: its place, counted from 1
 abbrev pub code_in : List (List ℕ) → List ℕ → Option ℕ

@@ -2,7 +2,7 @@
 
 ghost use Rattle.std.specs.Prelude.{◌≡◌, ◌<◌, ◌≤◌, [], length, IfOk, None, OnErr, OnOk, Some};
 ghost use Rattle.std.specs.Option.{option_copied};
-ghost use Rattle.text_column.specs.Words.{IsDictionary, IsWord, code_in, with_word, word_in, most_words};
+ghost use Rattle.text_column.specs.Words.{IsDictionary, IsWord, code_in, with_word, word_in};
 
 use fb_types::Label;
 use indexmap::IndexSet;
@@ -72,7 +72,7 @@ impl Dictionary {
     /// The code of a word, which goes behind the others where it is new.
     pub fn add(&mut self, word: Label) -> Result<u32, AllocError>
         requires word { IsWord word }
-        requires few { length self.old < most_words }
+        requires few { length self.old < 4194304 }
         ensures ok { OnOk result (self.new ≡ with_word self.old word) }
         ensures code { IfOk result (λ code. code_in self.new word ≡ Some code) }
 

@@ -5,9 +5,8 @@ ghost use Rattle.fb_outside.specs.Causes.{HasCause};
 ghost use Rattle.fb_outside.specs.Files.{SameFiles, file_at, told_at};
 ghost use Rattle.fb_outside.specs.Reads.{AddsOnly, AddsRead, IsWholeLook, whole_look};
 ghost use Rattle.text_column.specs.DictionaryFile.{counted_in, dictionary_bytes, dictionary_in, next_in, word_at, words_bytes, words_in};
-ghost use Rattle.answers.specs.Answers.{Answers, Tells};
-ghost use Rattle.text_column.specs.OpenedDictionary.{StopsReadingWords, dictionary_of, told_by_file};
-ghost use Rattle.text_column.specs.Words.{IsDictionary, most_words};
+ghost use Rattle.text_column.specs.OpenedDictionary.{OpensWords, Says, StopsReadingWords, dictionary_of};
+ghost use Rattle.text_column.specs.Words.{IsDictionary};
 
 use crate::dictionary::Dictionary;
 use crate::fault::DicFault;
@@ -39,21 +38,21 @@ impl Dictionary {
 
     /// The dictionary whose file has these bytes, or the first fault among them.
     pub fn from_bytes(alloc: Global, bytes: &[u8]) -> Result<Dictionary, DicFault>
-        ensures exact { Answers told_by_file result (dictionary_in bytes.now) }
+        ensures exact { OpensWords result (dictionary_in bytes.now) }
         ensures stop { IfErr result StopsReadingWords }
 
         // What is read is spelled so, and what is spelled so is read.
         ensures found { IfOk result (λ words. bytes.now ≡ dictionary_bytes words) }
-        ensures only { (words : List (List ℕ)) → IsDictionary words → bytes.now ≡ dictionary_bytes words → Answers told_by_file result (Ok words) }
+        ensures only { (words : List (List ℕ)) → IsDictionary words → bytes.now ≡ dictionary_bytes words → OpensWords result (Ok words) }
     {
         counted_words(alloc, bytes)
     }
 
     /// Adds the word at the front of the bytes, and answers the bytes behind it.
     fn add_from<'a>(&mut self, alloc: Global, bytes: &'a [u8]) -> Result<&'a [u8], DicFault>
-        requires { length self.old < most_words }
+        requires { length self.old < 4194304 }
         ensures ok { IfOk result (λ rest. next_in self.old bytes.now ≡ Ok (self.new, rest.now)) }
-        ensures err { IfErr result (Tells told_by_file (λ told. next_in self.old bytes.now ≡ Err told)) }
+        ensures err { IfErr result (λ fault. Says fault (next_in self.old bytes.now ≡ Err fault)) }
         ensures stop { IfErr result StopsReadingWords }
     {
         let Some((word, rest)) = word_of_bytes(bytes) else {
@@ -77,7 +76,7 @@ impl Dictionary {
 /// The dictionary of the words that the first four bytes count.
 #[tactic(auto, unfolding(crate::specs::DictionaryFile::dictionary_in))]
 fn counted_words(alloc: Global, bytes: &[u8]) -> Result<Dictionary, DicFault>
-    ensures exact { Answers told_by_file result (dictionary_in bytes.now) }
+    ensures exact { OpensWords result (dictionary_in bytes.now) }
     ensures stop { IfErr result StopsReadingWords }
 {
     let Some((count, rest)) = bytes.split_first_chunk::<4>() else {
@@ -92,8 +91,8 @@ fn counted_words(alloc: Global, bytes: &[u8]) -> Result<Dictionary, DicFault>
 
 /// The dictionary of so many words, whose bytes these are to their end.
 fn words_of(alloc: Global, count: u32, bytes: &[u8]) -> Result<Dictionary, DicFault>
-    requires { count ≤ most_words }
-    ensures exact { Answers told_by_file result (words_in count ([], bytes.now)) }
+    requires { count ≤ 4194304 }
+    ensures exact { OpensWords result (words_in count ([], bytes.now)) }
     ensures stop { IfErr result StopsReadingWords }
 {
     let mut words = Dictionary::make(alloc);
@@ -128,12 +127,12 @@ pub fn open_dictionary<S: Store>(
     ensures cause { HasCause (S.faults store.old) (S.faults store.new) (IsErrOf result DicFault.Store) }
 
     // The file is a dictionary, or has a first fault.
-    ensures exact { IfSome (S.files store.old) (λ m. Answers told_by_file result (dictionary_of (file_at m name.now))) }
+    ensures exact { IfSome (S.files store.old) (λ m. OpensWords result (dictionary_of (file_at m name.now))) }
 
     // Without the definitions of the faults: a dictionary that is opened is spelled so, and what is spelled so is opened.
     ensures found { IfOk result (λ words. IfSome (S.files store.old) (λ m. file_at m name.now ≡ Some (dictionary_bytes words))) }
     ensures only { (words : List (List ℕ)) → IsDictionary words → told_at (S.files store.old) name.now ≡ Some (dictionary_bytes words)
-        → Answers told_by_file result (Ok words) }
+        → OpensWords result (Ok words) }
     ensures files { SameFiles (S.files store.old) (S.files store.new) }
     ensures reads { AddsOnly (IsWholeLook (S.files store.old) name.now) (S.reads store.old) (S.reads store.new) }
     ensures once { OnOk result (IfSome (S.files store.old) (λ m. AddsRead (Some m) (S.reads store.old) (S.reads store.new) (whole_look m name.now))) }

@@ -4,22 +4,18 @@ ghost use Rattle.std.specs.Prelude.{◌≡◌, ◌<◌, ◌≤◌, ◌+◌, ◌*
 ghost use Rattle.std.specs.List.{AllByRecursion};
 ghost use Rattle.wah_words.specs.Bytes.{spelling};
 ghost use Rattle.column_file.specs.Opening.{mask_in};
-ghost use Rattle.wah_words.specs.Limits.{most_bits};
 ghost use Rattle.text_column.specs.DictionaryFile.{IsFaultOf, dictionary_bytes, dictionary_in};
 ghost use Rattle.text_column.specs.OpenedTexts.{starts_in, text_in};
 ghost use Rattle.text_column.specs.Texts.{starts_bytes, starts_of, text_file, texts_at};
-ghost use Rattle.text_column.specs.Words.{IsDictionary, IsWord, code_in, first_seen, with_word, word_in, most_words};
+ghost use Rattle.text_column.specs.Words.{IsDictionary, IsWord, code_in, first_seen, with_word, word_in};
 ghost use Rattle.text_column.specs.declared.fault.DicFault.{DicFault};
 
-/// A code is of one word and a word has one code, which no later word changes; adding a column's words in turn makes a
-/// dictionary.
+/// A code is of one word and a word has one code; adding a column's words in turn makes a dictionary.
 pub fn codes_and_words()
-    ensures kept { (words : List (List ℕ)) (word new : List ℕ) (code : ℕ) → code_in words word ≡ Some code
-        → code_in (with_word words new) word ≡ Some code }
     ensures both { (words : List (List ℕ)) (word : List ℕ) (code : ℕ) → IsDictionary words
         → (code_in words word ≡ Some code) ↔ (word_in words code ≡ Some word) }
     ensures seen { (words : List (List ℕ)) (word : List ℕ) → first_seen (words ++ word ∷ []) ≡ with_word (first_seen words) word }
-    ensures dictionary { (words : List (List ℕ)) → AllByRecursion IsWord words → length words ≤ most_words → IsDictionary (first_seen words) }
+    ensures dictionary { (words : List (List ℕ)) → AllByRecursion IsWord words → length words ≤ 4194304 → IsDictionary (first_seen words) }
 {}
 
 /// A dictionary is read back from its bytes, and bytes that are read are those of the dictionary.
@@ -43,6 +39,6 @@ pub fn starts_and_texts()
 
 /// The definition of opening accepts what is written.
 pub fn written_texts_open()
-    ensures { (texts : List (List ℕ)) (bits : List Bool) → length bits ≡ length texts → length bits ≤ most_bits → length (text_file texts) < 2 ^ 64
+    ensures { (texts : List (List ℕ)) (bits : List Bool) → length bits ≡ length texts → length bits ≤ 4194304 → length (text_file texts) < 2 ^ 64
         → text_in (length texts) (Some (text_file texts)) (Some (starts_bytes (starts_of texts))) (Some (spelling bits)) ≡ Ok (starts_of texts, bits) }
 {}

@@ -21,7 +21,7 @@ pub use laws::{
     written_texts_open,
 };
 pub use patterns::like;
-pub use text_files::{TextFiles, text_bytes};
+pub use text_files::text_bytes;
 pub use text_reads::read_texts;
 pub use text_ref::TextRef;
 pub use texts::open_text;

@@ -4,8 +4,7 @@ ghost use Rattle.std.specs.Prelude.{◌≡◌, ◌+◌, ◌-◌, ◌<◌, ◌≤
 ghost use Rattle.fb_outside.specs.Causes.{HasCause};
 ghost use Rattle.fb_outside.specs.Files.{SameFiles, bytes_at, told_at};
 ghost use Rattle.fb_outside.specs.Reads.{AddsOnly, AddsRead};
-ghost use Rattle.answers.specs.Answers.{Answers};
-ghost use Rattle.text_column.specs.OpenedTexts.{StopsReadingTexts, listed, part_in, read_in, told_by_files};
+ghost use Rattle.text_column.specs.OpenedTexts.{IsAnswer, StopsReadingTexts, listed, part_in, read_in};
 ghost use Rattle.text_column.specs.Texts.{AreWithin, size_between, starts_between, starts_of, text_file, texts_at};
 
 use crate::fault::TextFault;
@@ -30,7 +29,7 @@ pub fn read_texts<S: Store>(
     ensures count { IfOk result (λ texts. length texts.items ≡ end - first) }
 
     // The texts are those whose bytes stand there, or some of the bytes are missing.
-    ensures exact { IfSome (S.files store.old) (λ m. Answers told_by_files (listed result)
+    ensures exact { IfSome (S.files store.old) (λ m. IsAnswer (listed result)
         (read_in (size_between text.now.starts.items first end) (starts_between text.now.starts.items first end)
         (bytes_at m text.now.name (slice_index text.now.starts.items first) (size_between text.now.starts.items first end)))) }
 
@@ -66,7 +65,7 @@ fn texts_between<S: Store>(
     ensures cause { HasCause (S.faults store.old) (S.faults store.new) (IsErrOf result TextFault.Store) }
     ensures stop { IfErr result StopsReadingTexts }
     ensures count { IfOk result (λ texts. length texts.items ≡ end - first) }
-    ensures exact { IfSome (S.files store.old) (λ m. Answers told_by_files (listed result)
+    ensures exact { IfSome (S.files store.old) (λ m. IsAnswer (listed result)
         (read_in (size_between text.now.starts.items first end) (starts_between text.now.starts.items first end)
         (bytes_at m text.now.name (slice_index text.now.starts.items first) (size_between text.now.starts.items first end)))) }
     ensures files { SameFiles (S.files store.old) (S.files store.new) }
@@ -99,7 +98,7 @@ fn read_part<S: Store>(
     ensures cause { HasCause (S.faults store.old) (S.faults store.new) (IsErrOf result TextFault.Store) }
     ensures stop { IfErr result StopsReadingTexts }
     ensures size { IfOk result (λ bytes. length bytes.items ≡ size) }
-    ensures exact { IfSome (S.files store.old) (λ m. Answers told_by_files (listed result) (part_in size (bytes_at m name.now at size))) }
+    ensures exact { IfSome (S.files store.old) (λ m. IsAnswer (listed result) (part_in size (bytes_at m name.now at size))) }
     ensures files { SameFiles (S.files store.old) (S.files store.new) }
     ensures reads { AddsOnly (λ look. look ≡ record { name = name.now; offset = at; room = size }) (S.reads store.old) (S.reads store.new) }
     ensures once { (IsErrOf result TextFault.OutOfMemory → ⊥) → 0 < size → AddsRead (S.files store.old) (S.reads store.old) (S.reads store.new)

@@ -6,9 +6,7 @@ ghost use Rattle.fb_outside.specs.Files.{SameFiles, file_at, told_at};
 ghost use Rattle.fb_outside.specs.Reads.{AddsOnly, AddsRead, AddsReads, IsWholeLook, whole_look};
 ghost use Rattle.wah_words.specs.Bytes.{spelling};
 ghost use Rattle.column_file.specs.Opening.{mask_in};
-ghost use Rattle.answers.specs.Answers.{Answers};
-ghost use Rattle.wah_words.specs.Limits.{most_bits};
-ghost use Rattle.text_column.specs.OpenedTexts.{StopsMasked, StopsOpeningText, StopsStarts, and_mask, listed, masked, opened_text, starts_in, text_in, told_by_files};
+ghost use Rattle.text_column.specs.OpenedTexts.{IsAnswer, StopsMasked, StopsOpeningText, StopsStarts, and_mask, listed, masked, opened_text, starts_in, text_in};
 ghost use Rattle.text_column.specs.Texts.{first_below, first_wrong, starts_at, starts_bytes, starts_of, text_file};
 
 use crate::fault::TextFault;
@@ -32,14 +30,14 @@ pub fn open_text<S: Store>(
     ensures stop { IfErr result (StopsOpeningText rows) }
 
     // The three files are those of such a column, or have a first fault.
-    ensures exact { IfSome (S.files store.old) (λ m. Answers told_by_files (opened_text result)
+    ensures exact { IfSome (S.files store.old) (λ m. IsAnswer (opened_text result)
         (text_in rows (file_at m name.now) (file_at m starts_name.now) (file_at m mask_name.now))) }
 
     // What is written is opened.
-    ensures only { (texts : List (List ℕ)) (bits : List Bool) → length texts ≡ rows → length bits ≡ rows → length bits ≤ most_bits
+    ensures only { (texts : List (List ℕ)) (bits : List Bool) → length texts ≡ rows → length bits ≡ rows → length bits ≤ 4194304
         → length (text_file texts) < 2 ^ 64 → told_at (S.files store.old) name.now ≡ Some (text_file texts)
         → told_at (S.files store.old) starts_name.now ≡ Some (starts_bytes (starts_of texts))
-        → told_at (S.files store.old) mask_name.now ≡ Some (spelling bits) → Answers told_by_files (opened_text result) (Ok (starts_of texts, bits)) }
+        → told_at (S.files store.old) mask_name.now ≡ Some (spelling bits) → IsAnswer (opened_text result) (Ok (starts_of texts, bits)) }
     ensures files { SameFiles (S.files store.old) (S.files store.new) }
 
     // The starts and then the mask are read, each whole and once.
@@ -62,7 +60,7 @@ fn open_files<S: Store>(
     ensures cause { HasCause (S.faults store.old) (S.faults store.new) (IsErrOf result TextFault.Store) }
     ensures opened { IfOk result (λ text. (text.name ≡ name.now) × (text.rows ≡ rows) × (length text.mask ≡ rows)) }
     ensures stop { IfErr result (StopsOpeningText rows) }
-    ensures exact { IfSome (S.files store.old) (λ m. Answers told_by_files (opened_text result)
+    ensures exact { IfSome (S.files store.old) (λ m. IsAnswer (opened_text result)
         (text_in rows (file_at m name.now) (file_at m starts_name.now) (file_at m mask_name.now))) }
     ensures files { SameFiles (S.files store.old) (S.files store.new) }
     ensures reads { AddsOnly (λ look. IsWholeLook (S.files store.old) starts_name.now look ⊎ IsWholeLook (S.files store.old) mask_name.now look)
@@ -90,7 +88,7 @@ fn open_sized<S: Store>(
     ensures cause { HasCause (S.faults store.old) (S.faults store.new) (IsErrOf result TextFault.Store) }
     ensures opened { IfOk result (λ text. (text.name ≡ name.now) × (text.rows ≡ rows) × (length text.mask ≡ rows)) }
     ensures stop { IfErr result (StopsOpeningText rows) }
-    ensures exact { IfSome (S.files store.old) (λ m. Answers told_by_files (opened_text result)
+    ensures exact { IfSome (S.files store.old) (λ m. IsAnswer (opened_text result)
         (and_mask (starts_in size rows (file_at m starts_name.now)) (masked (mask_in rows (file_at m mask_name.now))))) }
     ensures files { SameFiles (S.files store.old) (S.files store.new) }
     ensures reads { AddsOnly (λ look. IsWholeLook (S.files store.old) starts_name.now look ⊎ IsWholeLook (S.files store.old) mask_name.now look)
@@ -121,7 +119,7 @@ fn read_mask<S: Store>(
     ensures cause { HasCause (S.faults store.old) (S.faults store.new) (IsErrOf result TextFault.Store) }
     ensures rows { IfOk result (λ mask. length mask ≡ rows) }
     ensures stop { IfErr result (StopsMasked rows) }
-    ensures exact { IfSome (S.files store.old) (λ m. Answers told_by_files result (masked (mask_in rows (file_at m name.now)))) }
+    ensures exact { IfSome (S.files store.old) (λ m. IsAnswer result (masked (mask_in rows (file_at m name.now)))) }
     ensures files { SameFiles (S.files store.old) (S.files store.new) }
     ensures reads { AddsOnly (IsWholeLook (S.files store.old) name.now) (S.reads store.old) (S.reads store.new) }
     ensures once { OnOk result (IfSome (S.files store.old) (λ m. AddsRead (Some m) (S.reads store.old) (S.reads store.new) (whole_look m name.now))) }
@@ -146,7 +144,7 @@ fn read_starts<S: Store>(
     ensures counted { IfOk result (λ starts. length starts.items ≡ rows + 1) }
     ensures rising { IfOk result (λ starts. first_wrong starts.items ≡ None) }
     ensures stop { IfErr result (StopsStarts rows) }
-    ensures exact { IfSome (S.files store.old) (λ m. Answers told_by_files (listed result) (starts_in size rows (file_at m name.now))) }
+    ensures exact { IfSome (S.files store.old) (λ m. IsAnswer (listed result) (starts_in size rows (file_at m name.now))) }
     ensures files { SameFiles (S.files store.old) (S.files store.new) }
     ensures reads { AddsOnly (IsWholeLook (S.files store.old) name.now) (S.reads store.old) (S.reads store.new) }
     ensures once { OnOk result (IfSome (S.files store.old) (λ m. AddsRead (Some m) (S.reads store.old) (S.reads store.new) (whole_look m name.now))) }
@@ -161,7 +159,7 @@ fn read_starts<S: Store>(
 
 /// The starts that the bytes of a whole file spell.
 fn starts_of_bytes(alloc: Global, bytes: &[u8], size: u64, rows: u32) -> Result<Vec<u64>, TextFault>
-    ensures exact { Answers told_by_files (listed result) (starts_in size rows (Some bytes.now)) }
+    ensures exact { IsAnswer (listed result) (starts_in size rows (Some bytes.now)) }
     ensures counted { IfOk result (λ starts. length starts.items ≡ rows + 1) }
     ensures rising { IfOk result (λ starts. first_wrong starts.items ≡ None) }
     ensures stop { IfErr result (StopsStarts rows) }

@@ -12,8 +12,7 @@ use Rattle.where_grammar.specs.declared.token.Token.{Token}
 use Rattle.where_grammar.specs.Nesting.{is_crowded, is_deep, is_much_negated}
 use Rattle.where_grammar.specs.Grammar.{IsClause}
 use Rattle.where_grammar.specs.Parsing.{bare, clause_of, long_of}
-use Rattle.answers.specs.Answers.{Answers, Tells}
-use Rattle.where_grammar.specs.Language.{HasTokens, IsNoClause, NoClause, SpellsClause, clause_read, listed, long_list, no_clause, no_tokens, read_by, read_tokens, read_where, spelled_by, refusal}
+use Rattle.where_grammar.specs.Language.{Gives, HasTokens, IsFaultOf, IsNoClause, NoClause, SpellsClause, clause_read, listed, long_list, no_clause, no_tokens, read_by, read_tokens, read_where, spelled_by}
 use Rattle.where_grammar.proofs.TextLaws.{has_tokens, read_found}
 use Rattle.where_grammar.proofs.TextLaws as laws
 use Rattle.where_grammar.proofs.Clauses.{clause_of-told}
@@ -41,11 +40,11 @@ read_some tokens (Some c) read is e =
     let same : record { clause = c; long = long_of tokens } ≡ read = cc in
     (subst (λ r. IsClause r.clause (bare tokens)) same (clause_of-told (bare tokens) c is), sym (ap (λ r. r.long) same))
 
-pub read_clause : (tokens : List Placed) (r : Result ClauseRead ClauseFault) → Answers refusal r (clause_read tokens (clause_of (bare tokens))) → IfOk r (λ read. IsClause read.clause (bare tokens))
+pub read_clause : (tokens : List Placed) (r : Result ClauseRead ClauseFault) → Gives r (clause_read tokens (clause_of (bare tokens))) → IfOk r (λ read. IsClause read.clause (bare tokens))
 read_clause tokens (Ok read) gives = (read_some tokens (clause_of (bare tokens)) read refl gives).0
 read_clause tokens (Err e) gives = tt
 
-pub read_long : (tokens : List Placed) (r : Result ClauseRead ClauseFault) → Answers refusal r (clause_read tokens (clause_of (bare tokens))) → IfOk r (λ read. read.long ≡ long_of tokens)
+pub read_long : (tokens : List Placed) (r : Result ClauseRead ClauseFault) → Gives r (clause_read tokens (clause_of (bare tokens))) → IfOk r (λ read. read.long ≡ long_of tokens)
 read_long tokens (Ok read) gives = (read_some tokens (clause_of (bare tokens)) read refl gives).1
 read_long tokens (Err e) gives = tt
 
@@ -56,12 +55,12 @@ none_read : (tokens : List Placed) (o : Option Clause) (k : QueryKind) → claus
 none_read tokens None k e = (cc, refl)
 none_read tokens (Some c) k e = absurd cc
 
-pub read_refused : (tokens : List Placed) (r : Result ClauseRead ClauseFault) → is_crowded 64 (bare tokens) ≡ false → Answers refusal r (clause_read tokens (clause_of (bare tokens))) → IfErr r (Tells refusal (IsNoClause tokens))
+pub read_refused : (tokens : List Placed) (r : Result ClauseRead ClauseFault) → is_crowded 64 (bare tokens) ≡ false → Gives r (clause_read tokens (clause_of (bare tokens))) → IfErr r (IsNoClause tokens)
 read_refused tokens (Ok read) free gives = tt
 read_refused tokens (Err fault.OutOfMemory) free gives = tt
 read_refused tokens (Err (fault.Bad k)) free gives =
     let none = none_read tokens (clause_of (bare tokens)) k gives in
-    subst (IsNoClause tokens) none.0 (none_is (bare tokens) free none.1)
+    subst (λ x. IsNoClause tokens (fault.Bad x)) none.0 (none_is (bare tokens) free none.1)
 
 -- ---- the text
 
@@ -81,7 +80,7 @@ read_spelled text (Ok tokens) c is e =
     record { tokens = tokens; has = read_found text tokens is; clause = told.1; short = told.0 }
 read_spelled text (Err k) c is e = absurd cc
 
-pub gives_clause : (text : List ℕ) (r : Result Clause ClauseFault) → Answers refusal r (read_where text) → IfOk r (λ c. SpellsClause c text)
+pub gives_clause : (text : List ℕ) (r : Result Clause ClauseFault) → Gives r (read_where text) → IfOk r (λ c. SpellsClause c text)
 unfolding read_where
 gives_clause text (Ok c) gives = read_spelled text (read_tokens text) c refl gives
 gives_clause text (Err e) gives = tt
@@ -110,7 +109,7 @@ read_no_clause text (Err other) k is e =
     let same : other ≡ k = cc in
     subst (NoClause text) same (no_tokens other (laws.read_refused text other is))
 
-pub gives_no_clause : (text : List ℕ) (r : Result Clause ClauseFault) → Answers refusal r (read_where text) → IfErr r (Tells refusal (NoClause text))
+pub gives_no_clause : (text : List ℕ) (r : Result Clause ClauseFault) → Gives r (read_where text) → IfErr r (IsFaultOf (NoClause text))
 unfolding read_where
 gives_no_clause text (Ok c) gives = tt
 gives_no_clause text (Err fault.OutOfMemory) gives = tt

@@ -1,5 +1,5 @@
 -- What the function finds is a clause.
-use Rattle.std.proofs.Common.{◌≡◌, ℕ, zero, suc, ◌+◌, ◌≤◌, Bool, true, false, List, [], ◌∷◌, ◌++◌, length, drop, refl, sym, ap, subst, ◌∙◌, inl, inr, append_assoc, append-nil, arith}
+use Rattle.std.proofs.Common.{◌≡◌, ℕ, zero, suc, ◌+◌, Bool, true, false, List, [], ◌∷◌, ◌++◌, length, drop, refl, sym, ap, subst, ◌∙◌, inl, inr, append_assoc, append-nil, arith}
 use Rattle.std.specs.Prelude.{Option, Some, None}
 use Rattle.std.specs.Option.{option_map, option_and_then}
 use Rattle.std.specs.List.{prefix_len}
@@ -11,7 +11,7 @@ use Rattle.where_grammar.specs.declared.clause.Join.TheVariants as join
 use Rattle.where_grammar.specs.declared.token.Sign.TheVariants as sign
 use Rattle.where_grammar.specs.declared.token.Token.{Token}
 use Rattle.where_grammar.specs.Nesting.{is_close, is_not, is_open}
-use Rattle.where_grammar.specs.Grammar.{AreParts, IsClause, IsJoined, IsNots, IsPart, alone, ands, closing, condition, enclosed, group, joins, last, more, negated, nots, opening, several, xors}
+use Rattle.where_grammar.specs.Grammar.{AreParts, IsClause, IsJoined, IsNots, IsPart, alone, ands, closing, condition, enclosed, joins, last, more, negated, nots, opening, several, xors}
 use Rattle.where_grammar.specs.Parsing.{At, after, atom_from, clause_of, clause_within, enclosed_at, grouped, joined_at, not_times, nots_at, part_at, parts_behind, parts_within, unit_at, whole}
 use Rattle.where_grammar.proofs.TokenTests.{after_told, sign_told}
 use Rattle.where_grammar.proofs.Conditions.{atom_from_told}
@@ -181,8 +181,3 @@ unfolding clause_of
 clause_of-told tokens c e =
     let cut = clause_told 65 tokens (c, []) (whole_told (clause_within 65 tokens) c e) in
     subst (IsClause c) (sym (cut.cut ∙ append-nil cut.front)) cut.spelled
-
--- two parts or more are a group
-pub grouped_two : (j : Join) (first : Clause) (others : List Clause) → 2 ≤ length (first ∷ others) → grouped j first others ≡ group j (first ∷ others)
-grouped_two j first [] two = absurd (omega arith)
-grouped_two j first (second ∷ cs) two = refl

@@ -11,7 +11,7 @@ use Rattle.where_grammar.specs.Grammar.{group, joins}
 use Rattle.where_grammar.specs.Parsing.{At, after, clause_within, enclosed_at, grouped, joined_at, part_at, parts_behind, parts_within}
 use Rattle.where_grammar.proofs.TokenTests.{after_told}
 use Rattle.where_grammar.proofs.Lists.{item_then, put_items, with_item}
-use Rattle.where_grammar.proofs.Clauses.{clause_told, grouped_two, part_told}
+use Rattle.where_grammar.proofs.Clauses.{clause_told, part_told}
 
 -- how tight a level is, from the loosest down
 abbrev pub rank : Join → ℕ
@@ -75,6 +75,10 @@ parts_here-fail j part tokens behind e none =
   where
     step : (behind : List Token) (n : ℕ) (token : Token) → joins j token ≡ true → part behind ≡ None → parts_within j part (suc n) (token ∷ behind) ≡ None
     step behind n token joint none = rw (joint, none) refl
+
+grouped_two : (j : Join) (first : Clause) (others : List Clause) → 2 ≤ length (first ∷ others) → grouped j first others ≡ group j (first ∷ others)
+grouped_two j first [] two = absurd (omega arith)
+grouped_two j first (second ∷ cs) two = refl
 
 same_group : (j : Join) (first : Clause) (parts others : List Clause) (rest back : List Token) → ◌≡◌ {A = Option (List Clause × List Token)} (Some (parts, rest)) (Some (first ∷ others, back)) → 2 ≤ length parts
     → ◌≡◌ {A = Option (Clause × List Token)} (Some (group j parts, rest)) (Some (grouped j first others, back))

@@ -1,3 +1,4 @@
+pub mod Numbers
 pub mod Boundaries
 pub mod Cuts
 pub mod Quotes

@@ -7,7 +7,7 @@ use Rattle.std.specs.Str.{str_to_ascii_lowercase}
 use Rattle.std.proofs.lemmas.Bool.Decides.{nat_tests}
 use Rattle.fb_types.specs.Names.{begins_name, column_name, continues_name, has_name_bytes, is_column_name, is_keyword}
 use Rattle.lexing.proofs.Cases.{chosen}
-use Rattle.std.proofs.lemmas.Bool.{and_from, and_parts}
+use Rattle.lexing.proofs.Runs.{and_both, and_parts}
 use Rattle.where_grammar.specs.declared.clause.Op.{Op}
 use Rattle.where_grammar.specs.declared.clause.Op.TheVariants as op
 use Rattle.where_grammar.specs.declared.clause.Atom.{Atom}
@@ -38,7 +38,7 @@ rest_plain (b ∷ bs) e =
     let parts = and_parts (continues_name b) (list_all continues_name bs) e in
     let here = continues_plain b parts.0 in
     let more = rest_plain bs parts.1 in
-    (and_from (in_word b) (list_all in_word bs) here.0 more.0, ap (λ x. x ∷ str_to_ascii_lowercase bs) here.1 ∙ ap (λ xs. b ∷ xs) more.1)
+    (and_both (in_word b) (list_all in_word bs) here.0 more.0, ap (λ x. x ∷ str_to_ascii_lowercase bs) here.1 ∙ ap (λ xs. b ∷ xs) more.1)
 
 bytes_plain : (name : List ℕ) → has_name_bytes name ≡ true → (is_word name ≡ true) × (str_to_ascii_lowercase name ≡ name)
 bytes_plain [] e = absurd cc
@@ -46,7 +46,7 @@ bytes_plain (b ∷ bs) e =
     let parts = and_parts (begins_name b) (list_all continues_name bs) e in
     let here = begins_plain b parts.0 in
     let more = rest_plain bs parts.1 in
-    (and_from (begins_word b) (list_all in_word bs) here.0 more.0, ap (λ x. x ∷ str_to_ascii_lowercase bs) here.1 ∙ ap (λ xs. b ∷ xs) more.1)
+    (and_both (begins_word b) (list_all in_word bs) here.0 more.0, ap (λ x. x ∷ str_to_ascii_lowercase bs) here.1 ∙ ap (λ xs. b ∷ xs) more.1)
 
 record IsName (name : List ℕ) : Type 0 where
   plain : IsPlain (t.Word name)
@@ -78,14 +78,14 @@ good_append [] ys good also = also
 good_append (x ∷ xs) ys good also =
     let parts = both (is_fit x) (list_all is_fit xs) good.fit in
     let more = good_append xs ys (record { plain = good.plain.1; fit = parts.1 }) also in
-    record { plain = (good.plain.0, more.plain); fit = and_from (is_fit x) (list_all is_fit (xs ++ ys)) parts.0 more.fit }
+    record { plain = (good.plain.0, more.plain); fit = and_both (is_fit x) (list_all is_fit (xs ++ ys)) parts.0 more.fit }
   where
     both : (x y : Bool) → (x && y) ≡ true → (x ≡ true) × (y ≡ true)
     both true y e = (refl, e)
     both false y e = absurd cc
 
 good_first : (x : Token) (xs : List Token) → IsPlain x → is_fit x ≡ true → AreGood xs → AreGood (x ∷ xs)
-good_first x xs plain fit good = record { plain = (plain, good.plain); fit = and_from (is_fit x) (list_all is_fit xs) fit good.fit }
+good_first x xs plain fit good = record { plain = (plain, good.plain); fit = and_both (is_fit x) (list_all is_fit xs) fit good.fit }
 
 none_good : AreGood []
 none_good = record { plain = tt; fit = refl }
@@ -109,7 +109,7 @@ fit_append [] ys e = (refl, e)
 fit_append (x ∷ xs) ys e =
     let parts = fit_parts x (xs ++ ys) e in
     let more = fit_append xs ys parts.1 in
-    (and_from (is_fit x) (list_all is_fit xs) parts.0 more.0, more.1)
+    (and_both (is_fit x) (list_all is_fit xs) parts.0 more.0, more.1)
 
 number_good : (z : ℤ) (xs : List Token) → is_fit (t.Number z) ≡ true → AreGood xs → AreGood (t.Number z ∷ xs)
 number_good z xs fit good = good_first (t.Number z) xs fit fit good

@@ -1,8 +1,7 @@
 -- Each clause is found.
-use Rattle.std.proofs.Common.{◌≡◌, ℕ, zero, suc, ◌+◌, ◌-◌, ◌≤◌, ◌<◌, Bool, true, false, List, [], ◌∷◌, ◌++◌, length, length-append, map, refl, sym, ap, subst, ◌∙◌, inl, inr, append_assoc, append-nil, arith, eqb}
+use Rattle.std.proofs.Common.{◌≡◌, ℕ, zero, suc, ◌+◌, ◌-◌, ◌≤◌, ◌<◌, ◌||◌, Bool, true, false, List, [], ◌∷◌, ◌++◌, length, length-append, map, refl, sym, ap, subst, ◌∙◌, inl, inr, ◌⊎◌, append_assoc, append-nil, arith, eqb}
 use Rattle.std.specs.Prelude.{Option, Some, None, codes}
 use Rattle.std.specs.List.{prefix_len}
-use Rattle.std.proofs.lemmas.Bool.{or_cases}
 use Rattle.std.proofs.lemmas.Bool.Decides.{nat_tests}
 use Rattle.fb_types.specs.Names.{column_name}
 use Rattle.where_grammar.specs.declared.clause.Atom.{Atom}
@@ -18,9 +17,13 @@ use Rattle.where_grammar.specs.Grammar.{AreParts, IsAtom, IsClause, IsJoined, Is
 use Rattle.where_grammar.specs.Parsing.{At, atom_at, clause_of, clause_within, grouped, joined_at, nots_at, op_in, part_at, parts_within, whole}
 use Rattle.where_grammar.proofs.TokenTests.{not_keyword, not_none, sign_told, word_told}
 use Rattle.where_grammar.proofs.Conditions.{NoOp, atom_again}
-use Rattle.where_grammar.proofs.Clauses.{Finds, clause_told, denied, grouped_two, nots_none, nots_step, part_told}
+use Rattle.where_grammar.proofs.Clauses.{Finds, clause_told, denied, nots_none, nots_step, part_told}
 
 -- ---- joints
+
+or_cases : (x y : Bool) → (x || y) ≡ true → (x ≡ true) ⊎ (y ≡ true)
+or_cases true y e = inl refl
+or_cases false y e = inr e
 
 -- the token joins neither at this level nor at a tighter one
 abbrev pub IsLoose : Join → Token → Type 0
@@ -236,6 +239,10 @@ more_read j part finds c cs all token tokens rest e joint are =
 
 alone_again : (j : Join) (part : At Clause) (c : Clause) (tokens rest : List Token) → part tokens ≡ Some (c, rest) → Ends j rest → joined_at j part tokens ≡ Some (c, rest)
 alone_again j part c tokens rest e ends = rw (e, no_more j part (length rest) rest ends) refl
+
+grouped_two : (j : Join) (first : Clause) (others : List Clause) → 2 ≤ length (first ∷ others) → grouped j first others ≡ group j (first ∷ others)
+grouped_two j first [] two = absurd (omega arith)
+grouped_two j first (second ∷ cs) two = refl
 
 joined_by : (j : Join) (part : At Clause) (first : Clause) (others : List Clause) (tokens tail rest : List Token) → part tokens ≡ Some (first, tail) → parts_within j part (length tail) tail ≡ Some (others, rest) → joined_at j part tokens ≡ Some (grouped j first others, rest)
 joined_by j part first others tokens tail rest head behind = rw (head, behind) refl

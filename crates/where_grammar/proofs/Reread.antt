@@ -1,25 +1,23 @@
 -- The tokens that a text spells are those that the function gives.
-use Rattle.std.proofs.Common.{◌≡◌, append_assoc, ℕ, Bool, true, false, cond, List, [], ◌∷◌, ◌++◌, length, take, drop, refl, sym, ap, subst, ◌∙◌, eqb, eqb-true, inl, inr, arith, ℤ}
+use Rattle.std.proofs.Common.{◌≡◌, append_assoc, ℕ, ◌<◌, Bool, true, false, cond, List, [], ◌∷◌, ◌++◌, length, take, drop, refl, sym, ap, subst, ◌∙◌, eqb, eqb-true, inl, inr, arith, ℤ, pos, neg_ℤ}
 use Rattle.std.specs.Prelude.{Option, Some, None, is_some}
 use Rattle.std.specs.Option.{option_map}
 use Rattle.std.specs.List.{prefix_len, list_all}
 use Rattle.std.specs.Char.{is_ascii_digit}
 use Rattle.std.specs.Str.{str_to_ascii_lowercase}
+use Rattle.std.specs.Str.Parse.{digits_value}
 use Rattle.std.proofs.lemmas.List.{take_at, drop_at}
 use Rattle.std.proofs.lemmas.Bool.Decides.{nat_tests}
-use Rattle.fb_types.specs.Field.{whole_of}
+use Rattle.fb_types.specs.Field.{natural_of, whole_of}
 use Rattle.where_grammar.specs.declared.token.Sign.{Sign}
 use Rattle.where_grammar.specs.declared.token.Token.{Token}
 use Rattle.where_grammar.specs.declared.token.Token.TheVariants as t
-use Rattle.where_grammar.specs.Tokens.{is_quote, doubled, IsQuoted, is_first, text_at, begins_word, in_word, double_sign, single_sign, is_word, sign_of, IsWritten, goes_on, word_at, number_at, sign_at, token_at}
+use Rattle.where_grammar.specs.Tokens.{is_quote, doubled, IsQuoted, is_first, text_at, begins_word, in_word, double_sign, single_sign, is_word, sign_of, IsWritten, goes_on, signed, word_at, number_at, sign_at, token_at}
 use Rattle.lexing.specs.Blanks.{is_blank, StopsAt}
-use Rattle.lexing.specs.Digits.{natural_of, signed}
-use Rattle.lexing.proofs.DigitLemmas.{natural_at-again, natural_of-some}
 use Rattle.lexing.proofs.Cases.{chosen, mapped}
-use Rattle.std.proofs.lemmas.Bool.{and_parts}
-use Rattle.lexing.proofs.Runs.{prefix_len-cut}
+use Rattle.lexing.proofs.Runs.{prefix_len-cut, and_parts}
 use Rattle.where_grammar.proofs.Quotes.{unquoted_again}
-use Rattle.where_grammar.proofs.Cuts.{begins_in_word, no_minus, no_plus}
+use Rattle.where_grammar.proofs.Cuts.{no_minus, no_plus}
 use Rattle.where_grammar.proofs.Signs.{BeginsSign, single_begins, double_begins}
 
 -- the token is read at the front, where no blank stands
@@ -40,6 +38,9 @@ record BeginFacts (b : ℕ) : Type 0 where
 
 begin_facts : (b : ℕ) → begins_word b ≡ true → BeginFacts b
 begin_facts b e = record { visible = grind (arith, nat_tests); no_minus = grind (arith, nat_tests); no_plus = grind (arith, nat_tests); no_digit = grind (arith, nat_tests) }
+
+begins_in_word : (b : ℕ) → begins_word b ≡ true → in_word b ≡ true
+begins_in_word b e = rw e refl
 
 word_again : (word rest : List ℕ) → list_all in_word word ≡ true → StopsAt in_word rest → word_at (word ++ rest) ≡ (t.Word (str_to_ascii_lowercase word), rest)
 unfolding word_at
@@ -62,56 +63,80 @@ word_reads b bs rest begins all stops =
 
 -- ---- numbers
 
-digits_again : (is_negative : Bool) (digits rest : List ℕ) (n : ℕ) → natural_of digits ≡ Some n → StopsAt is_ascii_digit rest → number_at is_negative (digits ++ rest) ≡ Some (t.Number (signed is_negative n), rest)
+digits_again : (is_negative : Bool) (digits rest : List ℕ) → list_all is_ascii_digit digits ≡ true → 0 < length digits → StopsAt is_ascii_digit rest → number_at is_negative (digits ++ rest) ≡ Some (t.Number (signed is_negative (digits_value 10 digits)), rest)
 unfolding number_at
-digits_again is_negative digits rest n is stops = rw (natural_at-again digits rest n is stops) refl
+digits_again is_negative digits rest all some stops =
+    let n : prefix_len is_ascii_digit (digits ++ rest) ≡ length digits = prefix_len-cut is_ascii_digit digits rest all stops in
+    let front : take (length digits) (digits ++ rest) ≡ digits = take_at digits rest (length digits) refl in
+    let back : drop (length digits) (digits ++ rest) ≡ rest = drop_at digits rest (length digits) refl in
+    let not_none : eqb (length digits) 0 ≡ false = grind (arith, nat_tests) in
+    rw (n, front, back, not_none) refl
 
 digit_visible : (b : ℕ) → is_ascii_digit b ≡ true → is_blank b ≡ false
 digit_visible b e = grind (arith, nat_tests)
 
-plain_reads : (digits rest : List ℕ) (n : ℕ) → natural_of digits ≡ Some n → StopsAt is_ascii_digit rest → Reads (digits ++ rest) (t.Number (signed false n)) rest
+plain_reads : (digits rest : List ℕ) → list_all is_ascii_digit digits ≡ true → 0 < length digits → StopsAt is_ascii_digit rest → Reads (digits ++ rest) (t.Number (pos (digits_value 10 digits))) rest
 unfolding token_at
-plain_reads [] rest n is stops = absurd cc
-plain_reads (b ∷ bs) rest n is stops =
-    let digit : is_ascii_digit b ≡ true = (and_parts (is_ascii_digit b) (list_all is_ascii_digit bs) (natural_of-some (b ∷ bs) n is).all).0 in
-    let found : token_at (b ∷ (bs ++ rest)) ≡ Some (t.Number (signed false n), rest) = rw (no_minus b digit, no_plus b digit, digit) (digits_again false (b ∷ bs) rest n is stops) in
+plain_reads [] rest all some stops = absurd (omega arith)
+plain_reads (b ∷ bs) rest all some stops =
+    let digit : is_ascii_digit b ≡ true = (and_parts (is_ascii_digit b) (list_all is_ascii_digit bs) all).0 in
+    let found : token_at (b ∷ (bs ++ rest)) ≡ Some (t.Number (pos (digits_value 10 (b ∷ bs))), rest) = rw (no_minus b digit, no_plus b digit, digit) (digits_again false (b ∷ bs) rest all some stops) in
     record { first = b; others = bs ++ rest; cons = refl; visible = digit_visible b digit; found = found }
 
-minus_reads : (digits rest : List ℕ) (n : ℕ) → natural_of digits ≡ Some n → StopsAt is_ascii_digit rest → Reads (45 ∷ (digits ++ rest)) (t.Number (signed true n)) rest
+minus_reads : (digits rest : List ℕ) → list_all is_ascii_digit digits ≡ true → 0 < length digits → StopsAt is_ascii_digit rest → Reads (45 ∷ (digits ++ rest)) (t.Number (neg_ℤ (pos (digits_value 10 digits)))) rest
 unfolding token_at
-minus_reads digits rest n is stops =
-    record { first = 45; others = digits ++ rest; cons = refl; visible = refl; found = digits_again true digits rest n is stops }
+minus_reads digits rest all some stops =
+    record { first = 45; others = digits ++ rest; cons = refl; visible = refl; found = digits_again true digits rest all some stops }
 
-plus_reads : (digits rest : List ℕ) (n : ℕ) → natural_of digits ≡ Some n → StopsAt is_ascii_digit rest → Reads (43 ∷ (digits ++ rest)) (t.Number (signed false n)) rest
+plus_reads : (digits rest : List ℕ) → list_all is_ascii_digit digits ≡ true → 0 < length digits → StopsAt is_ascii_digit rest → Reads (43 ∷ (digits ++ rest)) (t.Number (pos (digits_value 10 digits))) rest
 unfolding token_at
-plus_reads digits rest n is stops =
-    record { first = 43; others = digits ++ rest; cons = refl; visible = refl; found = digits_again false digits rest n is stops }
+plus_reads digits rest all some stops =
+    record { first = 43; others = digits ++ rest; cons = refl; visible = refl; found = digits_again false digits rest all some stops }
 
-after_minus : (b : ℕ) (bs rest : List ℕ) (v : ℤ) → eqb b 45 ≡ true → option_map (signed true) (natural_of bs) ≡ Some v → StopsAt is_ascii_digit rest → Reads ((b ∷ bs) ++ rest) (t.Number v) rest
+record IsNatural (ds : List ℕ) (n : ℕ) : Type 0 where
+  all : list_all is_ascii_digit ds ≡ true
+  some : 0 < length ds
+  value : digits_value 10 ds ≡ n
+
+natural_told : (ds : List ℕ) (n : ℕ) → natural_of ds ≡ Some n → IsNatural ds n
+natural_told [] n e = absurd cc
+natural_told (d ∷ ds) n e =
+    elim (chosen (list_all is_ascii_digit (d ∷ ds)) (Some (digits_value 10 (d ∷ ds))) None (Some n) e) [
+      | inl h ↦ record { all = h.0; some = omega arith; value = cc }
+      | inr h ↦ absurd cc
+    ]
+
+after_minus : (b : ℕ) (bs rest : List ℕ) (v : ℤ) → eqb b 45 ≡ true → option_map (λ n. neg_ℤ (pos n)) (natural_of bs) ≡ Some v → StopsAt is_ascii_digit rest → Reads ((b ∷ bs) ++ rest) (t.Number v) rest
 after_minus b bs rest v byte e stops =
-    let h = mapped (signed true) (natural_of bs) v e in
+    let h = mapped (λ n. neg_ℤ (pos n)) (natural_of bs) v e in
+    let told = natural_told bs h.0 h.1.0 in
+    let value : neg_ℤ (pos (digits_value 10 bs)) ≡ v = ap (λ n. neg_ℤ (pos n)) told.value ∙ h.1.1 in
     let first : 45 ≡ b = sym (eqb-true b 45 byte) in
-    subst (λ m. Reads ((m ∷ bs) ++ rest) (t.Number v) rest) first (subst (λ z. Reads (45 ∷ (bs ++ rest)) (t.Number z) rest) h.1.1 (minus_reads bs rest h.0 h.1.0 stops))
+    subst (λ m. Reads ((m ∷ bs) ++ rest) (t.Number v) rest) first (subst (λ z. Reads (45 ∷ (bs ++ rest)) (t.Number z) rest) value (minus_reads bs rest told.all told.some stops))
 
-after_plus : (b : ℕ) (bs rest : List ℕ) (v : ℤ) → eqb b 43 ≡ true → option_map (signed false) (natural_of bs) ≡ Some v → StopsAt is_ascii_digit rest → Reads ((b ∷ bs) ++ rest) (t.Number v) rest
+after_plus : (b : ℕ) (bs rest : List ℕ) (v : ℤ) → eqb b 43 ≡ true → option_map (λ n. pos n) (natural_of bs) ≡ Some v → StopsAt is_ascii_digit rest → Reads ((b ∷ bs) ++ rest) (t.Number v) rest
 after_plus b bs rest v byte e stops =
-    let h = mapped (signed false) (natural_of bs) v e in
+    let h = mapped (λ n. pos n) (natural_of bs) v e in
+    let told = natural_told bs h.0 h.1.0 in
+    let value : pos (digits_value 10 bs) ≡ v = ap (λ n. pos n) told.value ∙ h.1.1 in
     let first : 43 ≡ b = sym (eqb-true b 43 byte) in
-    subst (λ m. Reads ((m ∷ bs) ++ rest) (t.Number v) rest) first (subst (λ z. Reads (43 ∷ (bs ++ rest)) (t.Number z) rest) h.1.1 (plus_reads bs rest h.0 h.1.0 stops))
+    subst (λ m. Reads ((m ∷ bs) ++ rest) (t.Number v) rest) first (subst (λ z. Reads (43 ∷ (bs ++ rest)) (t.Number z) rest) value (plus_reads bs rest told.all told.some stops))
 
-unsigned : (ds rest : List ℕ) (v : ℤ) → option_map (signed false) (natural_of ds) ≡ Some v → StopsAt is_ascii_digit rest → Reads (ds ++ rest) (t.Number v) rest
+unsigned : (ds rest : List ℕ) (v : ℤ) → option_map (λ n. pos n) (natural_of ds) ≡ Some v → StopsAt is_ascii_digit rest → Reads (ds ++ rest) (t.Number v) rest
 unsigned ds rest v e stops =
-    let h = mapped (signed false) (natural_of ds) v e in
-    subst (λ z. Reads (ds ++ rest) (t.Number z) rest) h.1.1 (plain_reads ds rest h.0 h.1.0 stops)
+    let h = mapped (λ n. pos n) (natural_of ds) v e in
+    let told = natural_told ds h.0 h.1.0 in
+    let value : pos (digits_value 10 ds) ≡ v = ap (λ n. pos n) told.value ∙ h.1.1 in
+    subst (λ z. Reads (ds ++ rest) (t.Number z) rest) value (plain_reads ds rest told.all told.some stops)
 
-behind_plus : (b : ℕ) (bs rest : List ℕ) (v : ℤ) (plus : Bool) → eqb b 43 ≡ plus → option_map (signed false) (natural_of (cond plus bs (b ∷ bs))) ≡ Some v → StopsAt is_ascii_digit rest → Reads ((b ∷ bs) ++ rest) (t.Number v) rest
+behind_plus : (b : ℕ) (bs rest : List ℕ) (v : ℤ) (plus : Bool) → eqb b 43 ≡ plus → option_map (λ n. pos n) (natural_of (cond plus bs (b ∷ bs))) ≡ Some v → StopsAt is_ascii_digit rest → Reads ((b ∷ bs) ++ rest) (t.Number v) rest
 behind_plus b bs rest v true byte e stops = after_plus b bs rest v byte e stops
 behind_plus b bs rest v false byte e stops = unsigned (b ∷ bs) rest v e stops
 
 number_reads : (numeral rest : List ℕ) (v : ℤ) → whole_of numeral ≡ Some v → StopsAt is_ascii_digit rest → Reads (numeral ++ rest) (t.Number v) rest
 number_reads [] rest v e stops = absurd cc
 number_reads (b ∷ bs) rest v e stops =
-    elim (chosen (eqb b 45) (option_map (signed true) (natural_of bs)) (option_map (signed false) (natural_of (cond (eqb b 43) bs (b ∷ bs)))) (Some v) e) [
+    elim (chosen (eqb b 45) (option_map (λ n. neg_ℤ (pos n)) (natural_of bs)) (option_map (λ n. pos n) (natural_of (cond (eqb b 43) bs (b ∷ bs)))) (Some v) e) [
       | inl h ↦ after_minus b bs rest v h.0 h.1 stops
       | inr h ↦ behind_plus b bs rest v (eqb b 43) refl h.1 stops
     ]

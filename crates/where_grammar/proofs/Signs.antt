@@ -8,7 +8,7 @@ use Rattle.where_grammar.specs.declared.token.Sign.TheVariants as sign
 use Rattle.lexing.specs.Blanks.{is_blank}
 use Rattle.where_grammar.specs.Tokens.{is_quote, begins_word, double_sign, single_sign}
 use Rattle.lexing.proofs.Cases.{chosen}
-use Rattle.std.proofs.lemmas.Bool.{and_parts}
+use Rattle.lexing.proofs.Runs.{and_parts}
 
 step : (P : Sign → Type 0) (test : Bool) (here : Sign) (others : Option Sign) (s : Sign) → cond test (Some here) others ≡ Some s → (test ≡ true → P here) → (others ≡ Some s → P s) → P s
 step P test here others s e this more =

@@ -11,12 +11,11 @@ use Rattle.where_grammar.specs.declared.token.Placed.{Placed}
 use Rattle.where_grammar.specs.Tokens.{tokens_of}
 use Rattle.where_grammar.specs.Nesting.{is_deep}
 use Rattle.where_grammar.specs.Parsing.{bare}
-use Rattle.answers.specs.Answers.{Answers, Tells}
-use Rattle.where_grammar.specs.Language.{HasTokens, NoTokens, too_long, stopped, too_deep, read_tokens, shallow_or_refused, refusal}
+use Rattle.where_grammar.specs.Language.{Gives, HasTokens, IsFaultOf, NoTokens, too_long, stopped, too_deep, read_tokens, shallow_or_refused}
 use Rattle.where_grammar.proofs.TokenLaws.{tokens_of-spelled, spelled-tokens_of, tokens_of-stopped, stopped-tokens_of}
 
 -- an answer is the same as an equal one
-pub along : {A : Type 0} (r : Result A ClauseFault) (x y : Result A QueryKind) → Answers refusal r x → x ≡ y → Answers refusal r y
+pub along : {A : Type 0} (r : Result A ClauseFault) (x y : Result A QueryKind) → Gives r x → x ≡ y → Gives r y
 along (Ok v) x y gives e = sym e ∙ gives
 along (Err fault.OutOfMemory) x y gives e = gives
 along (Err (fault.Bad k)) x y gives e = sym e ∙ gives
@@ -98,11 +97,11 @@ no_tokens text _ (too_deep tokens few spelled deep) = deep_read text tokens few 
 
 -- ---- answers of calls
 
-pub gives_tokens : (text : List ℕ) (r : Result (List Placed) ClauseFault) → Answers refusal r (read_tokens text) → IfOk r (HasTokens text)
+pub gives_tokens : (text : List ℕ) (r : Result (List Placed) ClauseFault) → Gives r (read_tokens text) → IfOk r (HasTokens text)
 gives_tokens text (Ok tokens) gives = read_found text tokens gives
 gives_tokens text (Err e) gives = tt
 
-pub gives_refused : (text : List ℕ) (r : Result (List Placed) ClauseFault) → Answers refusal r (read_tokens text) → IfErr r (Tells refusal (NoTokens text))
+pub gives_refused : (text : List ℕ) (r : Result (List Placed) ClauseFault) → Gives r (read_tokens text) → IfErr r (IsFaultOf (NoTokens text))
 gives_refused text (Ok tokens) gives = tt
 gives_refused text (Err fault.OutOfMemory) gives = tt
 gives_refused text (Err (fault.Bad k)) gives = read_refused text k gives

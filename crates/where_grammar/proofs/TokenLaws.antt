@@ -111,7 +111,6 @@ reader_refused at b bs kind.TextLength visible wrong = refused_excess at (b ∷ 
 reader_refused at b bs kind.Depth visible wrong = refused_excess at (b ∷ bs) kind.Depth wrong
 reader_refused at b bs kind.ListLength visible wrong = refused_excess at (b ∷ bs) kind.ListLength wrong
 reader_refused at b bs (kind.Unknown name) visible wrong = refused_excess at (b ∷ bs) (kind.Unknown name) wrong
-reader_refused at b bs (kind.WrongType name) visible wrong = refused_excess at (b ∷ bs) (kind.WrongType name) wrong
 
 -- ---- the whole text
 

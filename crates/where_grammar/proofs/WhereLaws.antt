@@ -9,8 +9,7 @@ use Rattle.std.proofs.lemmas.Slice.Eq.{bytes_eq-Decides}
 use Rattle.std.proofs.lemmas.Bool.Decides.{nat_tests}
 use Rattle.lexing.specs.Blanks.{StopsAt, is_blank}
 use Rattle.lexing.proofs.Cases.{chosen}
-use Rattle.std.proofs.lemmas.Bool.{and_from, and_parts}
-use Rattle.lexing.proofs.Runs.{front_passes, prefix_len-cut, rest_stops}
+use Rattle.lexing.proofs.Runs.{and_both, and_parts, front_passes, prefix_len-cut, rest_stops}
 use Rattle.where_grammar.specs.Tokens.{in_word}
 use Rattle.where_grammar.specs.Language.{FollowsWhere, after_where, behind_where}
 
@@ -43,7 +42,7 @@ lower_word : (word : List ℕ) → list_all is_ascii_lowercase (str_to_ascii_low
 lower_word [] e = refl
 lower_word (b ∷ bs) e =
     let parts = and_parts (is_ascii_lowercase (to_ascii_lowercase b)) (list_all is_ascii_lowercase (str_to_ascii_lowercase bs)) e in
-    and_from (in_word b) (list_all in_word bs) (lower_byte b parts.0).0 (lower_word bs parts.1)
+    and_both (in_word b) (list_all in_word bs) (lower_byte b parts.0).0 (lower_word bs parts.1)
 
 word_stops : (word rest : List ℕ) → str_to_ascii_lowercase word ≡ codes "where" → StopsAt is_blank (word ++ rest)
 word_stops [] rest e = absurd cc

@@ -1,15 +1,19 @@
 -- Written tokens are read as themselves.
-use Rattle.std.proofs.Common.{◌≡◌, ℕ, suc, ◌-◌, ◌||◌, Bool, true, false, cond, List, [], ◌∷◌, ◌++◌, length, refl, sym, ap, subst, ◌∙◌, inl, inr, ◌⊎◌, arith, ℤ, pos, negsuc}
-use Rattle.std.specs.Prelude.{Some, None, codes}
+use Rattle.std.proofs.Common.{◌≡◌, ℕ, suc, ◌-◌, ◌^◌, ◌<◌, ◌||◌, Bool, true, false, cond, List, [], ◌∷◌, ◌++◌, length, get_or, refl, sym, ap, subst, ◌∙◌, inl, inr, ◌⊎◌, arith, ℤ, pos, negsuc, neg_ℤ}
+use Rattle.std.specs.Prelude.{Some, None, codes, ◌&&◌}
 use Rattle.std.specs.List.{list_all, list_any}
+use Rattle.std.specs.Char.{is_ascii_digit}
 use Rattle.std.specs.Fmt.{decimal, signed_decimal}
 use Rattle.std.specs.Str.{str_to_ascii_lowercase}
+use Rattle.std.specs.Str.Parse.{digits_value}
+use Rattle.std.proofs.lemmas.Fmt.{decimal_is_IsNumeral_wide}
+use Rattle.std.proofs.lemmas.Str.Parse.{digit_at}
 use Rattle.std.proofs.lemmas.Int.{ints}
 use Rattle.std.proofs.lemmas.Bool.Decides.{nat_tests}
 use Rattle.fb_types.specs.Field.{whole_of}
 use Rattle.lexing.specs.Blanks.{StopsAt, is_blank}
 use Rattle.lexing.specs.Tokens as lexing
-use Rattle.std.proofs.lemmas.Bool.{and_parts}
+use Rattle.lexing.proofs.Runs.{and_both}
 use Rattle.where_grammar.specs.declared.clause.Op.{Op}
 use Rattle.where_grammar.specs.declared.clause.Op.TheVariants as op
 use Rattle.where_grammar.specs.declared.clause.QueryKind.TheVariants as kind
@@ -22,7 +26,6 @@ use Rattle.where_grammar.specs.Nesting.{is_close, is_open, is_sign}
 use Rattle.where_grammar.specs.Parsing.{bare}
 use Rattle.where_grammar.specs.Printed.{is_fit, is_long_text, is_tight, op_text, sign_text, token_text, written}
 use Rattle.where_grammar.specs.Tokens.{IsInFront, IsToken, IsWritten, IsWrong, excess, fits_128, goes_on, is_word, sign_of}
-use Rattle.lexing.proofs.DigitLemmas.{natural_of-decimal}
 use Rattle.where_grammar.proofs.Cuts.{whole_of-minus, whole_of-plain}
 use Rattle.where_grammar.proofs.Reread.{token_reads}
 use Rattle.where_grammar.proofs.TokenTests.{sign_told}
@@ -36,9 +39,29 @@ IsPlain (t.Number z) = fits_128 z ≡ true
 IsPlain (t.Text text) = Unit {0}
 IsPlain (t.Sign s) = Unit {0}
 
+all_ascii : (ds : List ℕ) → ((i : ℕ) → i < length ds → is_ascii_digit (get_or ds i 0) ≡ true) → list_all is_ascii_digit ds ≡ true
+all_ascii [] each = refl
+all_ascii (d ∷ ds) each = and_both (is_ascii_digit d) (list_all is_ascii_digit ds) (each 0 (omega arith)) (all_ascii ds (λ i within. each (suc i) (omega arith)))
+
+record IsDigits (n : ℕ) : Type 0 where
+  some : 0 < length (decimal n)
+  all : list_all is_ascii_digit (decimal n) ≡ true
+  value : digits_value 10 (decimal n) ≡ n
+
+digits_are : (n : ℕ) → n < 10 ^ 64 → IsDigits n
+digits_are n small =
+    let is = decimal_is_IsNumeral_wide n small in
+    record { some = is.0.0; all = all_ascii (decimal n) (λ i within. let digit = digit_at (decimal n) i is.0.1 within in grind (arith, nat_tests)); value = is.1 }
+
 number_written : (z : ℤ) → fits_128 z ≡ true → whole_of (signed_decimal z) ≡ Some z
-number_written (pos n) fits = whole_of-plain (decimal n) n (natural_of-decimal n (grind (arith, nat_tests, ints)))
-number_written (negsuc n) fits = whole_of-minus (decimal (suc n)) (suc n) (natural_of-decimal (suc n) (grind (arith, nat_tests, ints)))
+number_written (pos n) fits =
+    let small : n < 10 ^ 64 = grind (arith, nat_tests, ints) in
+    let d = digits_are n small in
+    whole_of-plain (decimal n) d.all d.some ∙ ap (λ k. Some (pos k)) d.value
+number_written (negsuc n) fits =
+    let small : suc n < 10 ^ 64 = grind (arith, nat_tests, ints) in
+    let d = digits_are (suc n) small in
+    whole_of-minus (decimal (suc n)) d.all d.some ∙ ap (λ k. Some (neg_ℤ (pos k))) d.value
 
 op_written : (by : Op) → sign_of (op_text by) ≡ Some (sign.Op by)
 op_written op.Less = refl
@@ -189,6 +212,10 @@ long_excess (t.Sign s) long = cc
 token_here : (size : ℕ) (text : List ℕ) (p : Placed) (rest : List ℕ) → excess p.token ≡ None → lexing.BeginsWith IsLoose size text p rest → lexing.BeginsWith IsToken size text p rest
 token_here size text p rest within b = record { blanks = b.blanks; behind = b.behind; cut = b.cut; all_blank = b.all_blank; here = record { place = b.here.place; front = b.here.front; within = within } }
 
+both : (x y : Bool) → (x && y) ≡ true → (x ≡ true) × (y ≡ true)
+both true y e = (refl, e)
+both false y e = absurd cc
+
 neither : (x y : Bool) → (x || y) ≡ false → (x ≡ false) × (y ≡ false)
 neither true y e = absurd cc
 neither false y e = (refl, e)
@@ -196,7 +223,7 @@ neither false y e = (refl, e)
 pub within_spelled : (size : ℕ) (text : List ℕ) (ps : List Placed) → list_all is_fit (bare ps) ≡ true → list_any is_long_text (bare ps) ≡ false → lexing.Spells IsLoose size text ps → lexing.Spells IsToken size text ps
 within_spelled size text [] fit short spells = spells
 within_spelled size text (p ∷ ps) fit short spells =
-    let f = and_parts (is_fit p.token) (list_all is_fit (bare ps)) fit in
+    let f = both (is_fit p.token) (list_all is_fit (bare ps)) fit in
     let s = neither (is_long_text p.token) (list_any is_long_text (bare ps)) short in
     (spells.0, (token_here size text p spells.0 (fit_excess p.token f.0 s.0) spells.1.0, within_spelled size spells.0 ps f.1 s.1 spells.1.1))
 
@@ -231,5 +258,5 @@ stop_by size text p ps rest false is fit any begins more = behind_token size tex
 pub long_stops : (size : ℕ) (text : List ℕ) (ps : List Placed) → list_all is_fit (bare ps) ≡ true → list_any is_long_text (bare ps) ≡ true → lexing.Spells IsLoose size text ps → lexing.StopsWith IsToken IsWrong size text kind.TextLength
 long_stops size text [] fit long spells = absurd cc
 long_stops size text (p ∷ ps) fit long spells =
-    let f = and_parts (is_fit p.token) (list_all is_fit (bare ps)) fit in
+    let f = both (is_fit p.token) (list_all is_fit (bare ps)) fit in
     stop_by size text p ps spells.0 (is_long_text p.token) refl f.0 long spells.1.0 (λ any. long_stops size spells.0 ps f.1 any spells.1.1)

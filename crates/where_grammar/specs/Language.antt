@@ -70,20 +70,27 @@ read_where text = read_by (read_tokens text)
 
 -- ---- answers of calls
 
--- the refusal that a fault tells of a text; want of memory tells none
-abbrev pub refusal : ClauseFault → Option QueryKind
-refusal (fault.Bad k) = Some k
-refusal fault.OutOfMemory = None
+-- a call's answer is this one, unless memory ran out
+abbrev pub Gives : {A : Type 0} → Result A ClauseFault → Result A QueryKind → Type 0
+Gives (Ok x) answer = answer ≡ Ok x
+Gives (Err fault.OutOfMemory) answer = ⊤
+Gives (Err (fault.Bad k)) answer = answer ≡ Err k
+
+-- a call's fault is the text's, unless memory ran out
+abbrev pub IsFaultOf : (QueryKind → Type 0) → ClauseFault → Type 0
+IsFaultOf Refused (fault.Bad k) = Refused k
+IsFaultOf Refused fault.OutOfMemory = ⊤
 
 -- the clause of tokens, with the place of its first long list
 abbrev pub clause_read : List Placed → Option Clause → Result ClauseRead QueryKind
 clause_read tokens None = Err kind.Syntax
 clause_read tokens (Some c) = Ok (record { clause = c; long = long_of tokens })
 
--- what is told of tokens that are no clause
-abbrev pub IsNoClause : List Placed → QueryKind → Type 0
-IsNoClause tokens kind.Syntax = (c : Clause) → IsClause c (bare tokens) → ⊥
-IsNoClause tokens k = ⊥
+-- the fault of tokens that are no clause
+abbrev pub IsNoClause : List Placed → ClauseFault → Type 0
+IsNoClause tokens (fault.Bad kind.Syntax) = (c : Clause) → IsClause c (bare tokens) → ⊥
+IsNoClause tokens (fault.Bad k) = ⊥
+IsNoClause tokens fault.OutOfMemory = ⊤
 
 -- ---- the text of a query
 

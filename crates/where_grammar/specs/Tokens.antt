@@ -5,9 +5,9 @@ use Rattle.std.specs.Option.{option_map}
 use Rattle.std.specs.List.{prefix_len, list_all}
 use Rattle.std.specs.Char.{is_ascii_digit, is_ascii_lowercase, is_ascii_uppercase}
 use Rattle.std.specs.Str.{str_to_ascii_lowercase}
+use Rattle.std.specs.Str.Parse.{digits_value}
 use Rattle.fb_types.specs.Field.{whole_of}
 use Rattle.lexing.specs.Blanks.{StopsAt}
-use Rattle.lexing.specs.Digits.{natural_at, signed}
 use Rattle.lexing.specs.Tokens as lexing
 use Rattle.where_grammar.specs.declared.clause.QueryKind.{QueryKind}
 use Rattle.where_grammar.specs.declared.clause.QueryKind.TheVariants as kind
@@ -144,9 +144,14 @@ StopsWith text kind = lexing.StopsWith IsToken IsWrong (length text) text kind
 unfoldable pub word_at : List ℕ → Token × List ℕ
 word_at text = let n = prefix_len in_word text in (t.Word (str_to_ascii_lowercase (take n text)), drop n text)
 
+abbrev pub signed : Bool → ℕ → ℤ
+signed is_negative n = if is_negative then neg_ℤ (pos n) else pos n
+
 -- the number whose digits, one or more, stand at the front, and what follows them
 unfoldable pub number_at : Bool → List ℕ → Option (Token × List ℕ)
-number_at is_negative text = option_map (λ found. (t.Number (signed is_negative found.0), found.1)) (natural_at text)
+number_at is_negative text =
+    let n = prefix_len is_ascii_digit text in
+    if n == 0 then None else Some (t.Number (signed is_negative (digits_value 10 (take n text))), drop n text)
 
 abbrev pub with_byte : ℕ → Option (List ℕ × List ℕ) → Option (List ℕ × List ℕ)
 with_byte b found = option_map (λ f. (b ∷ f.0, f.1)) found

@@ -117,10 +117,8 @@ pub enum QueryKind {
     Depth,
     /// A list of more than 4,096 items.
     ListLength,
-    /// A column that the schema lacks. Callers that look at a schema give it, and the next.
+    /// A column that the schema lacks. Callers that look at a schema give it.
     Unknown(ColName),
-    /// A column whose type the condition doesn't fit.
-    WrongType(ColName),
 }
 
 /// Why no clause was read.

@@ -6,8 +6,7 @@ ghost use Rattle.where_grammar.specs.declared.clause.Clause.{Clause};
 ghost use Rattle.where_grammar.specs.declared.clause.QueryKind.{QueryKind};
 ghost use Rattle.where_grammar.specs.declared.token.Token.{Token};
 ghost use Rattle.where_grammar.specs.Grammar.{IsClause, group, joins};
-ghost use Rattle.answers.specs.Answers.{Answers, Tells};
-ghost use Rattle.where_grammar.specs.Language.{FollowsWhere, IsNoClause, NoClause, SpellsClause, after_where, clause_read, read_where, refusal};
+ghost use Rattle.where_grammar.specs.Language.{FollowsWhere, Gives, IsFaultOf, IsNoClause, NoClause, SpellsClause, after_where, clause_read, read_where};
 ghost use Rattle.where_grammar.specs.Nesting.{is_crowded};
 ghost use Rattle.where_grammar.specs.Parsing.{after, bare, clause_of, clause_within, commas_before_close, enclosed_at, is_long, joined_at, long_of, not_times, nots_at, part_at, parts_behind, seen_at, unit_at};
 
@@ -243,7 +242,7 @@ fn whole(alloc: Global, tokens: &[Placed]) -> Result<Option<Clause>, AllocError>
 }
 
 fn clause_read(alloc: Global, tokens: &[Placed]) -> Result<ClauseRead, ClauseFault>
-    ensures { Answers refusal result (clause_read tokens.now (clause_of (bare tokens.now))) }
+    ensures { Gives result (clause_read tokens.now (clause_of (bare tokens.now))) }
 {
     match whole(alloc, tokens)? {
         Some(clause) => Ok(ClauseRead {
@@ -260,17 +259,17 @@ pub fn clause_of(alloc: Global, tokens: &[Placed]) -> Result<ClauseRead, ClauseF
     requires { is_crowded 64 (bare tokens.now) ≡ false }
     ensures found { IfOk result (λ read. IsClause read.clause (bare tokens.now)) }
     ensures long { IfOk result (λ read. read.long ≡ long_of tokens.now) }
-    ensures only { (c : Clause) → IsClause c (bare tokens.now) → Answers refusal result (Ok (record { clause = c; long = long_of tokens.now })) }
-    ensures refused { IfErr result (Tells refusal (IsNoClause tokens.now)) }
+    ensures only { (c : Clause) → IsClause c (bare tokens.now) → Gives result (Ok (record { clause = c; long = long_of tokens.now })) }
+    ensures refused { IfErr result (IsNoClause tokens.now) }
 
-    ensures exact { Answers refusal result (clause_read tokens.now (clause_of (bare tokens.now))) }
+    ensures exact { Gives result (clause_read tokens.now (clause_of (bare tokens.now))) }
 {
     clause_read(alloc, tokens)
 }
 
 #[tactic(auto, unfolding(crate::specs::Language::read_where))]
 fn parsed(alloc: Global, text: &str) -> Result<Clause, ClauseFault>
-    ensures { Answers refusal result (read_where text.now) }
+    ensures { Gives result (read_where text.now) }
 {
     let tokens = tokens(alloc, text)?;
     let read = clause_read(alloc, tokens.as_slice())?;
@@ -285,13 +284,13 @@ fn parsed(alloc: Global, text: &str) -> Result<Clause, ClauseFault>
 pub fn parse_where(alloc: Global, text: &str) -> Result<Clause, ClauseFault>
     // What is read is spelled so, and what is spelled so is read.
     ensures found { IfOk result (λ c. SpellsClause c text.now) }
-    ensures only { (c : Clause) → SpellsClause c text.now → Answers refusal result (Ok c) }
+    ensures only { (c : Clause) → SpellsClause c text.now → Gives result (Ok c) }
 
     // A refusal is the first one that holds, and where one holds, it is given.
-    ensures refused { IfErr result (Tells refusal (NoClause text.now)) }
-    ensures refuses { (kind : QueryKind) → NoClause text.now kind → Answers {T = Clause} refusal result (Err kind) }
+    ensures refused { IfErr result (IsFaultOf (NoClause text.now)) }
+    ensures refuses { (kind : QueryKind) → NoClause text.now kind → Gives {A = Clause} result (Err kind) }
 
-    ensures exact { Answers refusal result (read_where text.now) }
+    ensures exact { Gives result (read_where text.now) }
 {
     parsed(alloc, text)
 }

@@ -13,7 +13,6 @@ fn kind_name(kind: QueryKind) -> &'static str {
         QueryKind::Depth => "Depth",
         QueryKind::ListLength => "ListLength",
         QueryKind::Unknown(_) => "Unknown",
-        QueryKind::WrongType(_) => "WrongType",
     }
 }
 

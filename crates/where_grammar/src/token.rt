@@ -1,21 +1,21 @@
 //! The tokens of a query's text.
 
-ghost use Rattle.std.specs.Prelude.{◌≡◌, ◌≤◌, List, if◌then◌else◌, length, Some, None, Ok, Err, IfOk, IfErr, IfSome};
+ghost use Rattle.std.specs.Prelude.{◌≡◌, ◌≤◌, ◌^◌, ◌-◌, true, List, if◌then◌else◌, length, min, Some, None, Ok, Err, IfOk, IfErr, IfSome};
 ghost use Rattle.std.specs.Option.{option_map};
-ghost use Rattle.std.specs.List.{prefix_len};
+ghost use Rattle.std.specs.List.{prefix_len, list_all};
+ghost use Rattle.std.specs.Char.{is_ascii_digit};
 ghost use Rattle.std.specs.Str.{str_to_ascii_lowercase};
-ghost use Rattle.lexing.specs.Digits.{signed};
+ghost use Rattle.std.specs.Str.Parse.{digits_value};
 ghost use Rattle.where_grammar.specs.declared.clause.QueryKind.{QueryKind};
 ghost use Rattle.where_grammar.specs.declared.token.Placed.{Placed};
-ghost use Rattle.answers.specs.Answers.{Answers, Tells};
-ghost use Rattle.where_grammar.specs.Language.{HasTokens, NoTokens, read_tokens, refusal};
+ghost use Rattle.where_grammar.specs.Language.{Gives, HasTokens, IsFaultOf, NoTokens, read_tokens};
 ghost use Rattle.where_grammar.specs.Shorter.{reader-shorter};
-ghost use Rattle.where_grammar.specs.Tokens.{begins_word, double_sign, excess, fits_128, in_word, number_at, reader, seen, sign_at, single_sign, text_at, token_at, unquoted, within_limits, word_at};
+ghost use Rattle.where_grammar.specs.Tokens.{begins_word, double_sign, excess, fits_128, in_word, number_at, reader, seen, sign_at, signed, single_sign, text_at, token_at, unquoted, within_limits, word_at};
 
 use crate::clause::{ClauseFault, Op, QueryKind, bad};
 use crate::nesting::is_deep;
 use fb_types::Label;
-use lexing::{Lexeme, natural_at};
+use lexing::Lexeme;
 use sqlite_items::Items;
 use std::alloc::{AllocError, Global};
 
@@ -70,6 +70,26 @@ pub(crate) fn word_len(text: &[u8]) -> usize
     text.iter().take_while(|b| in_word(**b)).count()
 }
 
+fn digits_len(text: &[u8]) -> usize
+    ensures value { result ≡ prefix_len is_ascii_digit text.now }
+    ensures within { result ≤ length text.now }
+{
+    text.iter().take_while(|b| b.is_ascii_digit()).count()
+}
+
+/// The number that digits write, at most 2^128 - 1.
+fn magnitude(digits: &[u8]) -> u128
+    requires { list_all is_ascii_digit digits.now ≡ true }
+    ensures { result ≡ min (digits_value 10 digits.now) (2 ^ 128 - 1) }
+{
+    let mut value: u128 = 0;
+    for digit in digits {
+        let digit = u128::from(digit.saturating_sub(b'0'));
+        value = value.saturating_mul(10).saturating_add(digit);
+    }
+    value
+}
+
 /// The number of this size, None outside signed 128 bits.
 fn number(is_negative: bool, magnitude: u128) -> Option<i128>
     ensures { result ≡ (if fits_128 (signed is_negative magnitude) then Some (signed is_negative magnitude) else None) }
@@ -87,10 +107,12 @@ fn number(is_negative: bool, magnitude: u128) -> Option<i128>
 fn number_at(is_negative: bool, text: &[u8]) -> Result<(Token, &[u8]), QueryKind>
     ensures { seen result ≡ within_limits (number_at is_negative text.now) }
 {
-    let Some((magnitude, rest)) = natural_at(text) else {
+    let len = digits_len(text);
+    if len == 0 {
         return Err(QueryKind::Syntax);
-    };
-    match number(is_negative, magnitude) {
+    }
+    let (front, rest) = text.split_at(len);
+    match number(is_negative, magnitude(front)) {
         Some(value) => Ok((Token::Number(value), rest)),
         None => Err(QueryKind::Literal),
     }
@@ -254,7 +276,7 @@ const MAX_LENGTH: usize = 1_048_576;
 
 #[tactic(auto, unfolding(crate::specs::Language::read_tokens))]
 fn lexed(alloc: Global, text: &str) -> Result<Items<Placed>, ClauseFault>
-    ensures { Answers refusal result (read_tokens text.now) }
+    ensures { Gives result (read_tokens text.now) }
 {
     if text.len() > MAX_LENGTH {
         return Err(bad(QueryKind::Length));
@@ -271,13 +293,13 @@ fn lexed(alloc: Global, text: &str) -> Result<Items<Placed>, ClauseFault>
 pub fn tokens(alloc: Global, text: &str) -> Result<Items<Placed>, ClauseFault>
     // What is given are the text's tokens, and where it has tokens, they are given.
     ensures found { IfOk result (HasTokens text.now) }
-    ensures only { (tokens : List Placed) → HasTokens text.now tokens → Answers refusal result (Ok tokens) }
+    ensures only { (tokens : List Placed) → HasTokens text.now tokens → Gives result (Ok tokens) }
 
     // A refusal is the first one that holds, and where one holds, it is given.
-    ensures refused { IfErr result (Tells refusal (NoTokens text.now)) }
-    ensures refuses { (kind : QueryKind) → NoTokens text.now kind → Answers {T = List Placed} refusal result (Err kind) }
+    ensures refused { IfErr result (IsFaultOf (NoTokens text.now)) }
+    ensures refuses { (kind : QueryKind) → NoTokens text.now kind → Gives {A = List Placed} result (Err kind) }
 
-    ensures exact { Answers refusal result (read_tokens text.now) }
+    ensures exact { Gives result (read_tokens text.now) }
 {
     lexed(alloc, text)
 }

@@ -7,7 +7,7 @@ ghost use Rattle.fb_types.specs.declared.cells.Cell.TheVariants.{Null};
 ghost use Rattle.fb_types.specs.declared.schemas.Column.{Column};
 ghost use Rattle.where_grammar.specs.declared.clause.Atom.{Atom};
 ghost use Rattle.where_grammar.specs.declared.clause.Clause.{Clause};
-ghost use Rattle.where_grammar.specs.Holds.{atom_holds, compares, holds, odd_many};
+ghost use Rattle.where_grammar.specs.Holds.{atom_holds, holds, odd_many};
 ghost use Rattle.where_grammar.specs.Rows.{columns, numbers, truths, words};
 
 use crate::clause::{Atom, Clause, Op};
@@ -51,19 +51,3 @@ pub fn the_truth_of_words()
 pub fn the_truth_of_a_negation()
     ensures { holds (Clause.Not (Clause.One (Atom.Compare (codes "a") Op.Less (pos 5)))) columns (Null ∷ []) ≡ true }
 {}
-
-impl Op {
-    /// Whether the number stands so to the limit.
-    pub fn holds(self, number: i128, limit: i128) -> bool
-        ensures { result ≡ compares self number limit }
-    {
-        match self {
-            Op::Less => number < limit,
-            Op::LessEq => number <= limit,
-            Op::Greater => number > limit,
-            Op::GreaterEq => number >= limit,
-            Op::Equal => number == limit,
-            Op::Differs => number != limit,
-        }
-    }
-}

@@ -1,5 +1,3 @@
 pub mod MapLemmas
-pub mod PieceLemmas
-pub mod ContentLemmas
-pub mod FileLemmas
-pub mod KeptLemmas
+pub mod StandLemmas
+pub mod OneIntLemmas

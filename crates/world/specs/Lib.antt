@@ -1,4 +1,3 @@
 pub mod World
-pub mod PartFiles
 pub mod Stands
 pub mod Effects

@@ -1,5 +1,4 @@
 use Rattle.text_column.proofs.DictionaryLemmas.{word_of_code, code_of_word, seen_dictionary}
-use Rattle.text_column.proofs.WordLemmas.{code_kept}
 use Rattle.text_column.proofs.laws.codes_and_words.Goals as goal
 
 pub returns-clause-both : goal.returns-clause-both
@@ -7,6 +6,3 @@ returns-clause-both c = λ words word code h. (word_of_code words word code, cod
 
 pub returns-clause-dictionary : goal.returns-clause-dictionary
 returns-clause-dictionary c = seen_dictionary
-
-pub returns-clause-kept : goal.returns-clause-kept
-returns-clause-kept c = code_kept

@@ -1,5 +1,0 @@
-pub mod PrintLemmas
-pub mod Refusals
-pub mod RunLemmas
-pub mod LoadRunLemmas
-pub mod QuestionLemmas

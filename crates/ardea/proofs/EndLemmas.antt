@@ -1,7 +1,6 @@
 -- What a load leaves behind its answers, from what its steps answer.
-use Rattle.std.proofs.Common.{◌≡◌, inl, inr, ℕ, Bool, true, false, List, Option, Some, None, IfSome, is_ok, is_some, Err, refl, ap}
+use Rattle.std.proofs.Common.{◌≡◌, inl, inr, ℕ, Bool, true, false, List, Option, Some, None, IfSome, is_some, Err, refl}
 use Rattle.fb_outside.specs.Files.{Files, file_at}
-use Rattle.fb_outside.specs.Streams.{ForSomeInput}
 use Rattle.fb_types.specs.Table.{Table, AllFit}
 use Rattle.command_words.specs.declared.Load.{Load}
 use Rattle.part_meta.specs.FileNames.{catalog_name}
@@ -9,11 +8,11 @@ use Rattle.statuses.specs.declared.Status.{Status}
 use Rattle.statuses.specs.declared.Status.TheVariants.{SchemaDiffers}
 use Rattle.statuses.specs.declared.stop.Stop.{Stop}
 use Rattle.statuses.specs.declared.stop.Stop.TheVariants.{Refused, ReadFault, StoreFault, OutOfMemory}
-use Rattle.ardea.specs.Load.{Gives, load_schema, load_table}
+use Rattle.ardea.specs.Load.{Gives}
 use Rattle.ardea.specs.Reading.{IsRead, IsRefused, StopsReading}
 use Rattle.ardea.specs.Written.{WritesInPart, StopsWriting}
 use Rattle.ardea.specs.Done.{Ends, GoesThrough}
-use Rattle.ardea.proofs.LoadLemmas.{load_done, load_there, refused_table}
+use Rattle.ardea.proofs.LoadLemmas.{load_done, load_there}
 
 -- whether the path has a catalog, where the files are told
 abbrev pub ToldThere : List ℕ → Option Files → Bool → Type 0
@@ -21,15 +20,14 @@ ToldThere dir files there = IfSome files (λ m. is_some (file_at m (catalog_name
 
 refused_there : (load : Load) (left : Option (List ℕ)) (files : Option Files) (status : Status) → IsRefused load left status
     → Gives load left files (Err status)
-refused_there load left None status h =
-    record { input = h.input; there = false; input_told = h.told; there_told = tt; is = refused_table load.schema h.input false status h.holds }
+refused_there load left None status h = record { input = h.input; there = false; input_told = h.told; there_told = tt; is = h.is false }
 refused_there load left (Some m) status h =
     record {
       input = h.input;
       there = is_some (file_at m (catalog_name load.dir));
       input_told = h.told;
       there_told = refl;
-      is = refused_table load.schema h.input (is_some (file_at m (catalog_name load.dir))) status h.holds;
+      is = h.is (is_some (file_at m (catalog_name load.dir)));
     }
 
 pub ends_reading : (load : Load) (left : Option (List ℕ)) (files : Option Files) (stop : Stop) → StopsReading load left stop
@@ -39,19 +37,6 @@ ends_reading load left files ReadFault h = refl
 ends_reading load left files StoreFault h = absurd h
 ends_reading load left files OutOfMemory h = inl refl
 
--- the store is asked for a table that isn't refused
-pub asks_store : (load : Load) (left : Option (List ℕ)) (table : Table) → IsRead load left table
-    → ForSomeInput left (λ input. is_ok (load_table load.schema input) ≡ true)
-asks_store load left table h = record { input = h.input; told = h.told; holds = ap is_ok h.is }
-
--- and the input where the schema isn't
-pub asks_input : (load : Load) (left : Option (List ℕ)) (stop : Stop) → StopsReading load left stop → stop ≡ ReadFault
-    → is_ok (load_schema load.schema) ≡ true
-asks_input load left (Refused status) h e = absurd (cc)
-asks_input load left ReadFault h e = h
-asks_input load left StoreFault h e = absurd (cc)
-asks_input load left OutOfMemory h e = absurd (cc)
-
 pub ends_there : (load : Load) (left : Option (List ℕ)) (files : Option Files) (table : Table) → IsRead load left table
     → ToldThere load.dir files true → Gives load left files (Err (SchemaDiffers 0))
 ends_there load left files table h told =
@@ -60,7 +45,7 @@ ends_there load left files table h told =
       there = true;
       input_told = h.told;
       there_told = told;
-      is = load_there load.schema h.input table h.is;
+      is = load_there load.schema h.input table.schema table.records h.schema h.within h.records;
     }
 
 pub goes_through : (load : Load) (left : Option (List ℕ)) (files : Option Files) (table : Table) → IsRead load left table
@@ -72,7 +57,7 @@ goes_through load left files table h told fit =
         there = false;
         input_told = h.told;
         there_told = told;
-        is = load_done load.schema h.input table h.is;
+        is = load_done load.schema h.input table.schema table.records h.schema h.within h.records;
       };
       absent = told;
       schema = h.one;

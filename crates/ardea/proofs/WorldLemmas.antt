@@ -27,13 +27,12 @@ catalog_tells : (m : Files) (w : World) (path : List ℕ) (o : Option Dataset) �
 catalog_tells m w path None at proper h = ap is_some (h.free path proper at)
 catalog_tells m w path (Some d) at proper h = ap is_some (h.rests path d at).catalog
 
--- for the input of which it is told what a load gives, that is the outcome in the world
-pub load_outcome_is : (load : Load) (left : Option (List ℕ)) (m : Files) (w : World) (r : Result Table Status) → IsPath load.dir → Stands m w
-    → (g : Gives load left (Some m) r) → load_outcome load g.input w ≡ outcome_of load.dir r
-load_outcome_is load left m w r proper h g =
+pub load_outcome_is : (load : Load) (bytes : List ℕ) (m : Files) (w : World) (r : Result Table Status) → IsPath load.dir → Stands m w
+    → Gives load (Some bytes) (Some m) r → load_outcome load bytes w ≡ outcome_of load.dir r
+load_outcome_is load bytes m w r proper h g =
     let there : is_some (dataset_at w load.dir) ≡ g.there =
     sym (catalog_tells m w load.dir (dataset_at w load.dir) refl proper h) ∙ g.there_told in
-    ap (outcome_of load.dir) (ap (λ (b : Bool). load_result load.schema g.input b) there ∙ g.is)
+    ap (outcome_of load.dir) (ap (λ (b : Bool). load_result load.schema bytes b) there ∙ ap (λ (i : List ℕ). load_result load.schema i g.there) g.input_told ∙ g.is)
 
 no_dataset : (o : Option Dataset) → is_some o ≡ false → o ≡ None
 no_dataset None h = refl

@@ -16,6 +16,7 @@ use Rattle.statuses.specs.declared.LimitKind.TheVariants.{Input}
 use Rattle.statuses.specs.declared.Status.{Status}
 use Rattle.statuses.specs.declared.Status.TheVariants.{Done, BadSchema, BadInput, SchemaDiffers, Limit}
 use Rattle.statuses.specs.Outcome.{◌>>=◌, Outcome, refused}
+use Rattle.ardea.specs.declared.TheConstants.{MAX_INPUT_BYTES}
 
 abbrev pub schema_or_refusal : Result (List Column) SchemaFault → Result (List Column) Status
 schema_or_refusal (Ok schema) = Ok schema
@@ -37,36 +38,22 @@ load_schema text = do
   schema ← schema_or_refusal (read_schema text)
   loadable_or_refusal schema (not_loadable schema)
 
--- the most bytes of input that a load takes
-abbrev pub most_input_bytes : ℕ
-most_input_bytes = 1000000
-
 abbrev pub within_limit : List ℕ → Result (List ℕ) Status
 within_limit input =
-    if nat_le (length input) most_input_bytes then Ok input else Err (Limit Input (most_input_bytes + 1) most_input_bytes)
+    if nat_le (length input) MAX_INPUT_BYTES then Ok input else Err (Limit Input (MAX_INPUT_BYTES + 1) MAX_INPUT_BYTES)
 
 abbrev pub records_or_refusal : Result (List (List Cell)) Fault → Result (List (List Cell)) Status
 records_or_refusal (Ok records) = Ok records
 records_or_refusal (Err fault) = Err (BadInput fault.number fault.field fault.kind)
 
--- The table of an input under the schema that a text spells. All that refuses it stands before the store is asked,
--- and a schema that is refused before the input is.
-unfoldable pub load_table : List ℕ → List ℕ → Result Table Status
-load_table schema_text input = do
+-- The load of an input under the schema that a text spells. `there` says whether the path has a dataset, which
+-- takes one load as yet.
+unfoldable pub load_result : List ℕ → List ℕ → Bool → Result Table Status
+load_result schema_text input there = do
   schema ← load_schema schema_text
   text ← within_limit input
   records ← records_or_refusal (loaded text schema 0)
-  Ok (record { schema = schema; records = records })
-
--- as yet a dataset takes one load
-abbrev pub fresh_or_refusal : Bool → Table → Result Table Status
-fresh_or_refusal there table = if there then Err (SchemaDiffers 0) else Ok table
-
--- The load of an input under the schema that a text spells. `there` says whether the path has a dataset.
-unfoldable pub load_result : List ℕ → List ℕ → Bool → Result Table Status
-load_result schema_text input there = do
-  table ← load_table schema_text input
-  fresh_or_refusal there table
+  if there then Err (SchemaDiffers 0) else Ok (record { schema = schema; records = records })
 
 -- the line of a load of so many records
 unfoldable pub loaded_line : ℕ → List ℕ

@@ -4,14 +4,13 @@
 mod reading;
 mod writing;
 
-ghost use Rattle.std.specs.Prelude.{◌≡◌, true, false, IfOk, IfErr, IfSome, IsErrOf, OnOk, IsUtf8, is_ok, is_some};
+ghost use Rattle.std.specs.Prelude.{◌≡◌, IfOk, IfErr, IfSome, IsErrOf, OnOk, IsUtf8, is_some};
 ghost use Rattle.fb_outside.specs.Causes.{HasCause};
 ghost use Rattle.fb_outside.specs.Files.{SameFiles, file_at};
 ghost use Rattle.fb_outside.specs.Names.{IsPath};
-ghost use Rattle.fb_outside.specs.Streams.{ForSomeInput, IsAtEnd};
+ghost use Rattle.fb_outside.specs.Streams.{IsAtEnd};
 ghost use Rattle.part_meta.specs.FileNames.{catalog_name};
 ghost use Rattle.ardea.specs.Done.{Ends};
-ghost use Rattle.ardea.specs.Load.{load_schema, load_table};
 ghost use Rattle.ardea.specs.Written.{StopsWriting};
 
 use crate::reading::read_records;
@@ -39,13 +38,6 @@ pub fn load<I: Source, S: Store>(
     ensures store_cause { HasCause (S.faults store.old) (S.faults store.new) (IsErrOf result Stop.StoreFault) }
     ensures end { OnOk result (IsAtEnd (I.left input.new)) }
     ensures ends { Ends load.now (I.left input.old) (S.files store.old) (S.files store.new) result }
-
-    // The input is asked for where the schema isn't refused, the store where the records aren't.
-    ensures asks_input { IsErrOf result Stop.ReadFault → is_ok (load_schema load.now.schema) ≡ true }
-    ensures asks_store { IsErrOf result Stop.StoreFault
-        → ForSomeInput (I.left input.old) (λ bytes. is_ok (load_table load.now.schema bytes) ≡ true) }
-    ensures untouched { is_ok (load_schema load.now.schema) ≡ false
-        → (I.left input.new ≡ I.left input.old) × (I.faults input.new ≡ I.faults input.old) }
 {
     let columns = match read_records(alloc, load, input) {
         Ok(columns) => columns,

@@ -1,11 +1,11 @@
 //! The records of a load's input.
 
-ghost use Rattle.std.specs.Prelude.{◌≡◌, ◌≤◌, ◌+◌, ◌*◌, false, All, Ok, IfOk, IfErr, IsErrOf, OnOk, IsUtf8, is_ok, length, vec_len};
+ghost use Rattle.std.specs.Prelude.{◌≡◌, ◌≤◌, ◌+◌, ◌*◌, All, Ok, IfOk, IfErr, IsErrOf, OnOk, IsUtf8, length, vec_len};
 ghost use Rattle.fb_outside.specs.Causes.{HasCause};
 ghost use Rattle.fb_outside.specs.Streams.{IsAtEnd, Takes};
 ghost use Rattle.fb_types.specs.SchemaText.{IsFaultOf, read_schema};
 ghost use Rattle.world.specs.World.{IsNumber, IsOneInt, is_int};
-ghost use Rattle.ardea.specs.Load.{load_schema, most_input_bytes, not_loadable};
+ghost use Rattle.ardea.specs.Load.{load_schema, not_loadable};
 ghost use Rattle.csv_load.specs.Answers.{IsRecordFault};
 ghost use Rattle.csv_load.specs.Input.{Explains};
 ghost use Rattle.csv_load.specs.Loaded.{loaded};
@@ -30,10 +30,6 @@ pub(crate) fn read_records<I: Source>(
     ensures read { IfOk result (λ columns. IsRead load.now (I.left input.old) columns) }
     ensures end { OnOk result (IsAtEnd (I.left input.new)) }
     ensures stop { IfErr result (StopsReading load.now (I.left input.old)) }
-
-    // A schema that is refused leaves the input as it is.
-    ensures untouched { is_ok (load_schema load.now.schema) ≡ false
-        → (I.left input.new ≡ I.left input.old) × (I.faults input.new ≡ I.faults input.old) }
 {
     let Ok(text) = str::from_utf8(load.schema.bytes()) else {
         unreachable!()
@@ -92,7 +88,7 @@ fn bytes_of<I: Source>(alloc: Global, input: &mut I) -> Result<Vec<u8>, Stop>
     ensures cause { HasCause (I.faults input.old) (I.faults input.new) (IsErrOf result Stop.ReadFault) }
     ensures taken { IfOk result (λ bytes. Takes (I.left input.old) (I.left input.new) bytes.items) }
     ensures end { OnOk result (IsAtEnd (I.left input.new)) }
-    ensures within { IfOk result (λ bytes. vec_len bytes ≤ most_input_bytes) }
+    ensures within { IfOk result (λ bytes. vec_len bytes ≤ MAX_INPUT_BYTES) }
     ensures stop { IfErr result (StopsAtInput (I.left input.old)) }
 {
     match read_input(alloc, input, MAX_INPUT_BYTES) {

@@ -21,13 +21,12 @@ use wah_words::Wah;
 /// The most rows that one call reads.
 pub const MAX_ROWS_READ: usize = 4096;
 
-/// So few rows are read through a small buffer: single candidates are the common case of a selective question.
-const FEW_ROWS: usize = 16;
+/// The widest number's bytes.
+const MAX_WIDTH: usize = 8;
 
-/// The bytes of so many rows of the widest type, which has 8.
-const FEW_BYTES: usize = 128;
+const BUFFER: usize = 32_768;
 
-const MOST_BYTES: usize = 32_768;
+const _: () = prove!(BUFFER == MAX_ROWS_READ * MAX_WIDTH);
 
 /// A column whose values file has the length that its rows and its type ask for.
 #[derive(Drop)]
@@ -126,38 +125,8 @@ pub fn read_rows<S: Store>(
     ensures reads { AddsRead (S.files store.old) (S.reads store.old) (S.reads store.new)
         (record { name = column.now.name; offset = first * width_in column.now.ty; room = length out.old * width_in column.now.ty }) }
 {
-    if out.len() <= FEW_ROWS {
-        read_through::<FEW_BYTES, S>(store, column, first, out)
-    } else {
-        read_through::<MOST_BYTES, S>(store, column, first, out)
-    }
-}
-
-/// The same, through a buffer of N bytes, which is cleared first: so few rows take a small one.
-fn read_through<const N: usize, S: Store>(
-    store: &mut S,
-    column: &ColumnRef,
-    first: u32,
-    out: &mut [i128],
-) -> Result<(), ColFault>
-    requires width { IsSome (width_of column.now.ty) }
-    requires rows { first + length out.old ≤ column.now.rows }
-    requires room { length out.old * 8 ≤ N }
-    requires small { N ≤ 32768 }
-    ensures cause { HasCause (S.faults store.old) (S.faults store.new) (IsErrOf result ColFault.Store) }
-    ensures stop { IfErr result (StopsReading (length out.old * width_in column.now.ty)) }
-    ensures exact { IfSome (S.files store.old) (λ m. ReadsRows result out.new (rows_in column.now.ty (length out.old)
-        (bytes_at m column.now.name (first * width_in column.now.ty) (length out.old * width_in column.now.ty)))) }
-    ensures whole { (bytes : List ℕ) → told_at (S.files store.old) column.now.name ≡ Some bytes → length bytes ≡ column.now.rows * width_in column.now.ty
-        → OnErr result (IsErrOf result ColFault.Store) }
-    ensures rows { (values : List ℤ) → told_at (S.files store.old) column.now.name ≡ Some (values_bytes column.now.ty values)
-        → All (λ value. ValueFits value column.now.ty) values → OnOk result (out.new ≡ take (length out.old) (drop first values)) }
-    ensures files { SameFiles (S.files store.old) (S.files store.new) }
-    ensures reads { AddsRead (S.files store.old) (S.reads store.old) (S.reads store.new)
-        (record { name = column.now.name; offset = first * width_in column.now.ty; room = length out.old * width_in column.now.ty }) }
-{
     let want = out.len() * number_width(column.ty);
-    let mut buffer = [0; N];
+    let mut buffer = [0; BUFFER];
     read_by(store, column, first, out, &mut buffer[..want])
 }
 

@@ -1,5 +1,5 @@
 -- The request that a list of words spells.
-use Rattle.std.specs.Prelude.{ℕ, Bool, false, ◌==◌, ◌&&◌, not, List, [], ◌∷◌, String, length, map, nat_le, Option, Some, None, bytes_eq, string_bytes, if◌then◌else◌}
+use Rattle.std.specs.Prelude.{ℕ, Bool, false, ◌==◌, ◌&&◌, not, List, [], ◌∷◌, length, nat_le, Option, Some, None, bytes_eq, if◌then◌else◌}
 use lib.Chars.{codes}
 use Rattle.fb_outside.specs.NameTests.{are_pieces}
 use Rattle.command_words.specs.declared.Job.{Job}
@@ -34,7 +34,3 @@ unfoldable pub request_of : List (List ℕ) → Option Job
 request_of (command ∷ d ∷ dir ∷ option ∷ value ∷ []) =
     if is_dir dir && not (begins_with_dash value) then job_of command d dir option value else None
 request_of words = None
-
--- the same of words as strings
-abbrev pub asked_by : {A : Type 0} → List (String A) → Option Job
-asked_by words = request_of (map string_bytes words)

@@ -1,8 +1,8 @@
 //! The words of a command line, read as a request.
 #![tactic(auto)]
 
-ghost use Rattle.std.specs.Prelude.{◌≡◌, ℕ, List, [], ◌∷◌, Some, None, IfOk, IfSome, IsUtf8, if◌then◌else◌};
-ghost use Rattle.command_words.specs.Words.{asked_by, begins_with_dash, is_dir, is_form, job_of, request_of};
+ghost use Rattle.std.specs.Prelude.{◌≡◌, ℕ, List, [], ◌∷◌, Some, None, IfOk, IfSome, IsUtf8, map, string_bytes, if◌then◌else◌};
+ghost use Rattle.command_words.specs.Words.{begins_with_dash, is_dir, is_form, job_of, request_of};
 ghost use Rattle.command_words.specs.Valid.{IsValid};
 ghost use Rattle.fb_outside.specs.Names.{IsPath};
 
@@ -28,7 +28,7 @@ pub enum Job {
 /// The request that the words spell, or None where they spell none.
 #[tactic(auto, unfolding(crate::specs::Words::request_of))]
 pub fn request(alloc: Global, words: &[String]) -> Result<Option<Job>, AllocError>
-    ensures request { IfOk result (λ found. found ≡ asked_by words.now) }
+    ensures request { IfOk result (λ found. found ≡ request_of (map string_bytes words.now)) }
     ensures valid { IfOk result (λ found. IfSome found IsValid) }
 {
     match words {

@@ -4,24 +4,23 @@
 
 ghost use Rattle.std.specs.Prelude.{◌≡◌, ◌<◌};
 
-use fastbit_tool::{Status, run};
+use fastbit_tool::run;
 use fb_outside::{FolderStore, StdSink, StdSource};
 use std::alloc::AllocError;
 use std::marker::Brand;
 use std::process::ExitCode;
-use std::sync::ledger::Ledger;
+use std::sync::ledger::{Blank, Ledger};
 use std::{env, io};
-use steps::{Blank, Count, Steps};
+use steps::Steps;
 
 /// The code with which the program ends where the system doesn't give it its words. It is the code of no status.
 const NO_WORDS: u8 = 14;
 
 fn main(rt: HostRuntime) -> ExitCode {
     match words_of(&rt) {
-        Ok(words) => match command::<Brand>(&rt, &words, rt.blank()) {
-            Ok(status) => ExitCode::from(status.code()),
-            Err(_) => ExitCode::from(Status::OutOfMemory.code()),
-        },
+        Ok(words) => ExitCode::from(command::<Brand>(&rt, &words, Blank::new(1)).unwrap_or(
+            NO_WORDS,
+        )),
         Err(_) => ExitCode::from(NO_WORDS),
     }
 }
@@ -35,11 +34,7 @@ fn words_of(rt: &HostRuntime) -> io::Result<Vec<String>> {
     Ok(words)
 }
 
-fn command<L: Ledger>(
-    rt: &HostRuntime,
-    words: &[String],
-    blank: Blank,
-) -> Result<Status, AllocError>
+fn command<L: Ledger>(rt: &HostRuntime, words: &[String], blank: Blank) -> Result<u8, AllocError>
     requires ledger { blank.name ≡ L.name }
     requires parts { blank.parts ≡ L.parts }
     requires some { 0 < blank.parts }
@@ -48,12 +43,13 @@ fn command<L: Ledger>(
     let mut store = FolderStore::make(rt.clone()?, rt.alloc());
     let mut out = StdSink::make(io::writer(rt));
     let mut steps = Steps::<L>::new(blank);
-    Ok(run(
+    let status = run(
         rt.alloc(),
         words,
         &mut input,
         &mut store,
         &mut out,
         &mut steps,
-    ))
+    );
+    Ok(status.code())
 }

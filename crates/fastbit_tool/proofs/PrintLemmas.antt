@@ -1,17 +1,13 @@
 -- What printing a text tells of the status and of the reply.
-use Rattle.std.proofs.Common.{◌≡◌, ◌≢◌, inl, inr, ℕ, Bool, true, false, List, [], Option, Some, None, IfSome, refl, sym, ap, subst, ◌∙◌}
-use Rattle.fb_outside.specs.Files.{Files}
-use Rattle.command_words.specs.declared.Job.{Job}
+use Rattle.std.proofs.Common.{◌≡◌, ◌≢◌, inl, inr, ℕ, Bool, true, false, List, Option, sym, ap, subst, ◌∙◌}
 use Rattle.fb_outside.specs.Causes.{HasCause}
 use Rattle.fb_outside.specs.Streams.{GrowsInPart}
 use Rattle.fb_outside.proofs.StreamLemmas.{GrowsInPart-none}
 use Rattle.statuses.specs.declared.Status.{Status}
-use Rattle.statuses.specs.declared.Status.TheVariants.{Done, Usage, BadSchema, BadInput, SchemaDiffers, BadQuery, NoDataset, Damaged, Limit, ReadFault, StoreFault, SinkFault, OutOfMemory}
+use Rattle.statuses.specs.declared.Status.TheVariants.{Done, ReadFault, StoreFault, SinkFault, OutOfMemory}
 use Rattle.statuses.specs.Outcome.{Outcome}
 use Rattle.fastbit_tool.specs.Loading.{Prints}
 use Rattle.fastbit_tool.specs.Reply.{Replies, RepliesBy, is_fault}
-use Rattle.fastbit_tool.specs.Order.{Yields}
-use Rattle.fastbit_tool.specs.Causes.{ComesTo, HasCauseIn, Says, SaysBy, is_silent}
 
 -- a fault replies with a front of every text
 pub Replies-fault : (reply : Outcome) (status : Status) (old new : Option (List ℕ)) → is_fault status ≡ true → GrowsInPart old new reply.text
@@ -51,82 +47,6 @@ not_done ending text old new status other (inl (is, grows)) e = other (sym is �
 not_done ending text old new status other (inr (inl (is, part))) e = let bad : SinkFault ≡ Done = sym is ∙ e in cc
 not_done ending text old new status other (inr (inr (is, same))) e = let bad : OutOfMemory ≡ Done = sym is ∙ e in cc
 
--- a status that didn't come needs no cause, where what it stands for didn't come either
-pub no_cause : {P Q : Type 0} (before now : ℕ) → HasCause before now P → (P → ⊥) → (Q → ⊥) → HasCause before now Q
-no_cause before now h neither never = record { later = h.later; rose = λ q. absurd (never q); told = λ q. h.told neither }
-
--- ---- what is said over any files
-
-says_by : (comes : Outcome → Type 0) (status : Status) (old new : Option (List ℕ)) (b : Bool) → is_silent status ≡ b → SaysBy b comes status old new
-    → Says comes status old new
-says_by comes status old new b is h = subst (λ (a : Bool). SaysBy a comes status old new) (sym is) h
-
--- a command that ends silently
-pub says_silent : (comes : Outcome → Type 0) (status : Status) (old new : Option (List ℕ)) → is_silent status ≡ true → new ≡ old
-    → Says comes status old new
-says_silent comes status old new silent same = says_by comes status old new true silent same
-
-not_silent : (status : Status) → is_fault status ≡ false → is_silent status ≡ false
-not_silent Done e = refl
-not_silent Usage e = refl
-not_silent (BadSchema column kind) e = refl
-not_silent (BadInput number field kind) e = refl
-not_silent (SchemaDiffers column) e = refl
-not_silent (BadQuery kind) e = refl
-not_silent (NoDataset file) e = refl
-not_silent (Damaged file kind want have) e = refl
-not_silent (Limit what number limit) e = refl
-not_silent ReadFault e = absurd (cc)
-not_silent StoreFault e = absurd (cc)
-not_silent SinkFault e = absurd (cc)
-not_silent OutOfMemory e = absurd (cc)
-
--- a command that prints what it comes to
-pub says_printed : (comes : Outcome → Type 0) (reply : Outcome) (status : Status) (old new : Option (List ℕ)) → comes reply
-    → is_fault reply.status ≡ false → Prints reply.status reply.text old new status → Says comes status old new
-says_printed comes reply status old new come plain (inl (is, grows)) =
-    says_by comes status old new false (ap is_silent is ∙ not_silent reply.status plain)
-    (record { reply = reply; come = come; replies = Replies-prints reply status old new plain (inl (is, grows)) })
-says_printed comes reply status old new come plain (inr (inl (is, part))) =
-    says_by comes status old new false (ap is_silent is)
-    (record { reply = reply; come = come; replies = Replies-prints reply status old new plain (inr (inl (is, part))) })
-says_printed comes reply status old new come plain (inr (inr (is, same))) = says_silent comes status old new (ap is_silent is) same
-
--- the status of a command that prints is that of what it comes to, or a fault
-pub cause_printed : (asked : Option Job) (left : Option (List ℕ)) (files : Option Files) (reply : Outcome) (status : Status) (old new : Option (List ℕ))
-    → ComesTo asked left files reply → Prints reply.status reply.text old new status → HasCauseIn asked left files status
-cause_printed asked left files reply status old new come (inl (is, grows)) = inr (record { reply = reply; come = come; is = is })
-cause_printed asked left files reply status old new come (inr (inl (is, part))) = inl (ap is_fault is)
-cause_printed asked left files reply status old new come (inr (inr (is, same))) = inl (ap is_fault is)
-
--- ---- what yields
-
-pub yields_by : (asked : Option Job) (left : Option (List ℕ)) (status : Status) → status ≢ ReadFault → status ≢ StoreFault → Yields asked left status
-yields_by asked left ReadFault r s = absurd (r refl)
-yields_by asked left StoreFault r s = absurd (s refl)
-yields_by asked left SinkFault r s = tt
-yields_by asked left OutOfMemory r s = tt
-yields_by asked left Done r s = tt
-yields_by asked left Usage r s = tt
-yields_by asked left (BadSchema column kind) r s = tt
-yields_by asked left (BadInput number field kind) r s = tt
-yields_by asked left (SchemaDiffers column) r s = tt
-yields_by asked left (BadQuery kind) r s = tt
-yields_by asked left (NoDataset file) r s = tt
-yields_by asked left (Damaged file kind want have) r s = tt
-yields_by asked left (Limit what number limit) r s = tt
-
-pub yields_printed : (asked : Option Job) (left : Option (List ℕ)) (ending : Status) (text : List ℕ) (status : Status) (old new : Option (List ℕ))
-    → is_fault ending ≡ false → Prints ending text old new status → Yields asked left status
-yields_printed asked left ending text status old new plain prints =
-    yields_by asked left status (not_read ending text old new status plain prints) (not_store ending text old new status plain prints)
-
--- ---- an input where none is looked at
-
-abbrev pub some_input : Option (List ℕ) → List ℕ
-some_input None = []
-some_input (Some bytes) = bytes
-
-pub some_told : (left : Option (List ℕ)) → IfSome left (λ bytes. bytes ≡ some_input left)
-some_told None = tt
-some_told (Some bytes) = refl
+-- a status that didn't come needs no cause
+pub no_cause : {P Q : Type 0} (before now : ℕ) → HasCause before now P → (Q → ⊥) → HasCause before now Q
+no_cause before now h never = record { later = h.later; rose = λ q. absurd (never q) }

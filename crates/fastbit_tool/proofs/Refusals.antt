@@ -8,8 +8,9 @@ use Rattle.csv_load.specs.Loaded.{Fault, loaded}
 use Rattle.statuses.specs.declared.LimitKind.TheVariants.{Input}
 use Rattle.statuses.specs.declared.Status.{Status}
 use Rattle.statuses.specs.declared.Status.TheVariants.{Done, SchemaDiffers, Limit}
+use Rattle.ardea.specs.declared.TheConstants.{MAX_INPUT_BYTES}
 use Rattle.statuses.specs.Outcome.{◌>>=◌}
-use Rattle.ardea.specs.Load.{fresh_or_refusal, load_result, load_schema, load_table, loadable_or_refusal, most_input_bytes, not_loadable, records_or_refusal, schema_or_refusal, within_limit}
+use Rattle.ardea.specs.Load.{load_result, load_schema, loadable_or_refusal, not_loadable, records_or_refusal, schema_or_refusal, within_limit}
 use Rattle.fastbit_tool.specs.Reply.{is_fault}
 
 pub record IsRefusal (status : Status) : Type 0 where
@@ -40,7 +41,7 @@ load_schema_so : (text : List ℕ) → FailsSo (load_schema text)
 unfolding load_schema
 load_schema_so text = step (schema_or_refusal (read_schema text)) _ (schema_so (read_schema text)) (λ schema. loadable_so schema (not_loadable schema))
 
-limit_so : (input : List ℕ) (b : Bool) → FailsSo (if b then Ok input else Err (Limit Input (most_input_bytes + 1) most_input_bytes))
+limit_so : (input : List ℕ) (b : Bool) → FailsSo (if b then Ok input else Err (Limit Input (MAX_INPUT_BYTES + 1) MAX_INPUT_BYTES))
 unfolding FailsSo
 limit_so input true = tt
 limit_so input false = record { no_fault = refl; not_done = λ e. cc }
@@ -50,26 +51,18 @@ unfolding FailsSo
 records_so (Ok records) = tt
 records_so (Err fault) = record { no_fault = refl; not_done = λ e. cc }
 
-there_so : (there : Bool) (table : Table) → FailsSo (fresh_or_refusal there table)
+there_so : (there : Bool) (table : Table) → FailsSo (if there then Err (SchemaDiffers 0) else Ok table)
 unfolding FailsSo
 there_so true table = record { no_fault = refl; not_done = λ e. cc }
 there_so false table = tt
 
-table_of_so : (table : Table) → FailsSo {A = Table} (Ok table)
-unfolding FailsSo
-table_of_so table = tt
-
-table_so : (text input : List ℕ) → FailsSo (load_table text input)
-unfolding load_table
-table_so text input =
-    step (load_schema text) _ (load_schema_so text)
-    (λ schema. step (within_limit input) _ (limit_so input (nat_le (length input) most_input_bytes))
-    (λ bytes. step (records_or_refusal (loaded bytes schema 0)) _ (records_so (loaded bytes schema 0))
-    (λ records. table_of_so (record { schema = schema; records = records }))))
-
 load_so : (text input : List ℕ) (there : Bool) → FailsSo (load_result text input there)
 unfolding load_result
-load_so text input there = step (load_table text input) _ (table_so text input) (λ table. there_so there table)
+load_so text input there =
+    step (load_schema text) _ (load_schema_so text)
+    (λ schema. step (within_limit input) _ (limit_so input (nat_le (length input) MAX_INPUT_BYTES))
+    (λ bytes. step (records_or_refusal (loaded bytes schema 0)) _ (records_so (loaded bytes schema 0))
+    (λ records. there_so there (record { schema = schema; records = records }))))
 
 at_refusal : (status : Status) → FailsSo {A = Table} (Err status) → IsRefusal status
 unfolding FailsSo

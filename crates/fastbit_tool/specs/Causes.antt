@@ -1,64 +1,39 @@
--- Why a command ended with its status, and what it printed, over any files.
-use Rattle.std.specs.Prelude.{◌≡◌, ◌⊎◌, ℕ, Bool, true, false, List, Option, Some, None, Result}
+-- Why a command ended with its status.
+use Rattle.std.specs.Prelude.{◌≡◌, ◌⊎◌, ℕ, true, List, Option, Some, None, Result, Ok, Err}
 use Rattle.fb_outside.specs.Files.{Files}
 use Rattle.fb_types.specs.Table.{Table}
 use Rattle.command_words.specs.declared.Job.{Job}
 use Rattle.command_words.specs.declared.Job.TheVariants.{Ardea, Ibis}
 use Rattle.command_words.specs.declared.Load.{Load}
 use Rattle.statuses.specs.declared.Status.{Status}
-use Rattle.statuses.specs.declared.Status.TheVariants.{Usage, ReadFault, StoreFault, OutOfMemory}
-use Rattle.statuses.specs.Outcome.{Outcome, refused}
-use Rattle.ardea.specs.Load.{Gives, outcome_of}
-use Rattle.ibis.specs.Count.{answer_of}
+use Rattle.statuses.specs.declared.Status.TheVariants.{Done, Usage}
+use Rattle.ardea.specs.Load.{Gives}
 use Rattle.ibis.specs.Found.{Comes}
-use Rattle.fastbit_tool.specs.Reply.{Replies, is_fault}
+use Rattle.fastbit_tool.specs.Reply.{is_fault}
 
--- A load comes to what its definition has for some input and some presence of a catalog, which are those that the
+abbrev pub status_of : {A : Type 0} → Result A Status → Status
+status_of (Ok a) = Done
+status_of (Err status) = status
+
+-- A load's status is that of its definition for some input and some presence of a catalog, which are those that the
 -- source and the store tell.
-pub record LoadComesTo (load : Load) (left : Option (List ℕ)) (files : Option Files) (reply : Outcome) : Type 0 where
+pub record IsLoadStatus (load : Load) (left : Option (List ℕ)) (files : Option Files) (status : Status) : Type 0 where
   pub result : Result Table Status
   pub given : Gives load left files result
-  pub is : reply ≡ outcome_of load.dir result
+  pub is : status ≡ status_of result
 
--- A question comes to its count, or its refusal, over the files that the store tells.
-pub record CountComesTo (dir query : List ℕ) (files : Option Files) (reply : Outcome) : Type 0 where
+-- A question's status is that of what it comes to over the files that the store tells.
+pub record IsCountStatus (dir query : List ℕ) (files : Option Files) (status : Status) : Type 0 where
   pub result : Result ℕ Status
   pub comes : Comes dir query files result
-  pub is : reply ≡ answer_of result
+  pub is : status ≡ status_of result
 
--- what a request comes to over the input and the files, as far as source and store tell them
-abbrev pub ComesTo : Option Job → Option (List ℕ) → Option Files → Outcome → Type 0
-ComesTo None left files reply = reply ≡ refused Usage
-ComesTo (Some (Ardea load)) left files reply = LoadComesTo load left files reply
-ComesTo (Some (Ibis dir query)) left files reply = CountComesTo dir query files reply
+-- the status that the request has, where it is no fault
+abbrev pub IsStatusOf : Option Job → Option (List ℕ) → Option Files → Status → Type 0
+IsStatusOf None left files status = status ≡ Usage
+IsStatusOf (Some (Ardea load)) left files status = IsLoadStatus load left files status
+IsStatusOf (Some (Ibis dir query)) left files status = IsCountStatus dir query files status
 
--- the status is that of what the request comes to
-pub record IsStatusOf (comes : Outcome → Type 0) (status : Status) : Type 0 where
-  pub reply : Outcome
-  pub come : comes reply
-  pub is : status ≡ reply.status
-
--- Each status but a fault comes exactly where the request comes to it.
+-- Each status but a fault comes exactly where the definition has it.
 abbrev pub HasCauseIn : Option Job → Option (List ℕ) → Option Files → Status → Type 0
-HasCauseIn asked left files status = (is_fault status ≡ true) ⊎ IsStatusOf (ComesTo asked left files) status
-
--- what the request comes to was printed: all of it, or a front where printing failed
-pub record Printed (comes : Outcome → Type 0) (status : Status) (old new : Option (List ℕ)) : Type 0 where
-  pub reply : Outcome
-  pub come : comes reply
-  pub replies : Replies reply status old new
-
--- a status with which a command ends before it prints
-abbrev pub is_silent : Status → Bool
-is_silent ReadFault = true
-is_silent StoreFault = true
-is_silent OutOfMemory = true
-is_silent status = false
-
-abbrev pub SaysBy : Bool → (Outcome → Type 0) → Status → Option (List ℕ) → Option (List ℕ) → Type 0
-SaysBy true comes status old new = new ≡ old
-SaysBy false comes status old new = Printed comes status old new
-
--- A command prints what it comes to, or ends silently. `old` and `new` are what the sink had written before and after.
-abbrev pub Says : (Outcome → Type 0) → Status → Option (List ℕ) → Option (List ℕ) → Type 0
-Says comes status old new = SaysBy (is_silent status) comes status old new
+HasCauseIn asked left files status = (is_fault status ≡ true) ⊎ IsStatusOf asked left files status

@@ -2,5 +2,4 @@ pub mod Reply
 pub mod Loading
 pub mod Effects
 pub mod Causes
-pub mod Order
 pub mod Counting

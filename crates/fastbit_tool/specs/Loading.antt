@@ -1,13 +1,13 @@
 -- How a load ran: what it left of the files, and what it printed.
-use Rattle.std.specs.Prelude.{◌≡◌, ◌⊎◌, ℕ, true, List, length, Option, Err, is_ok}
+use Rattle.std.specs.Prelude.{◌≡◌, ◌⊎◌, ℕ, List, length, Option, Err}
 use Rattle.fb_outside.specs.Files.{Files, SameFiles}
-use Rattle.fb_outside.specs.Streams.{ForSomeInput, Grows, GrowsInPart}
+use Rattle.fb_outside.specs.Streams.{Grows, GrowsInPart}
 use Rattle.fb_types.specs.Table.{Table}
 use Rattle.command_words.specs.declared.Load.{Load}
 use Rattle.statuses.specs.declared.Status.{Status}
 use Rattle.statuses.specs.declared.Status.TheVariants.{Done, ReadFault, StoreFault, SinkFault, OutOfMemory}
 use Rattle.statuses.specs.Lines.{line_of}
-use Rattle.ardea.specs.Load.{Gives, load_schema, load_table, loaded_line}
+use Rattle.ardea.specs.Load.{Gives, loaded_line}
 use Rattle.ardea.specs.Written.{Writes}
 use Rattle.ardea.specs.Done.{GoesThrough, IsCut}
 
@@ -22,8 +22,6 @@ pub data LoadRuns (load : Load) (left : Option (List ℕ)) (old new : Option Fil
       → Prints Done (loaded_line (length table.records)) before after status → LoadRuns load left old new before after status
   Refuses : (refusal : Status) → Gives load left old (Err refusal) → SameFiles old new
       → Prints refusal (line_of refusal) before after status → LoadRuns load left old new before after status
-  Unread : is_ok (load_schema load.schema) ≡ true → SameFiles old new → after ≡ before → status ≡ ReadFault
+  Unread : SameFiles old new → after ≡ before → status ≡ ReadFault → LoadRuns load left old new before after status
+  Cut : SameFiles old new ⊎ IsCut load left old new → after ≡ before → (status ≡ StoreFault) ⊎ (status ≡ OutOfMemory)
       → LoadRuns load left old new before after status
-  Unstored : ForSomeInput left (λ input. is_ok (load_table load.schema input) ≡ true) → SameFiles old new ⊎ IsCut load left old new
-      → after ≡ before → status ≡ StoreFault → LoadRuns load left old new before after status
-  Cut : SameFiles old new ⊎ IsCut load left old new → after ≡ before → status ≡ OutOfMemory → LoadRuns load left old new before after status

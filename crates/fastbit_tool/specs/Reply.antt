@@ -16,6 +16,16 @@ outcome None input world = refused Usage
 outcome (Some (Ardea load)) input world = load_outcome load input world
 outcome (Some (Ibis dir query)) input world = count_outcome dir query world
 
+-- whether a request reads the input; no other looks at it
+abbrev pub reads_input : Option Job → Bool
+reads_input None = false
+reads_input (Some (Ardea load)) = true
+reads_input (Some (Ibis dir query)) = false
+
+-- the bytes are the input that a request reads, where it reads any
+abbrev pub IsInputOf : Option Job → Option (List ℕ) → List ℕ → Type 0
+IsInputOf asked left bytes = reads_input asked ≡ true → left ≡ Some bytes
+
 -- a status that prints nothing more, to which every other yields: the outside failed, or memory ran out
 abbrev pub is_fault : Status → Bool
 is_fault Done = false

@@ -4,19 +4,17 @@
 mod laws;
 mod printing;
 
-ghost use Rattle.std.specs.Prelude.{◌≡◌, ◌≢◌, true, false, IsUtf8, is_ok};
+ghost use Rattle.std.specs.Prelude.{◌≡◌, ◌≢◌, ℕ, List, Some, map, true, false, IsUtf8, string_bytes};
 ghost use Rattle.fb_outside.specs.Causes.{HasCause, Rose};
 ghost use Rattle.fb_outside.specs.Files.{ChangesAmong, SameFiles};
-ghost use Rattle.fb_outside.specs.Streams.{ForSomeInput, IsAtEnd};
+ghost use Rattle.fb_outside.specs.Streams.{IsAtEnd};
 ghost use Rattle.fb_outside.specs.Names.{IsPath};
-ghost use Rattle.command_words.specs.Words.{asked_by};
+ghost use Rattle.command_words.specs.Words.{request_of};
 ghost use Rattle.world.specs.World.{World};
 ghost use Rattle.world.specs.Stands.{StandsFor};
-ghost use Rattle.ardea.specs.Load.{load_schema};
-ghost use Rattle.fastbit_tool.specs.Reply.{Completes, Replies, is_fault, outcome};
-ghost use Rattle.fastbit_tool.specs.Order.{Yields, takes_input};
+ghost use Rattle.fastbit_tool.specs.Reply.{Completes, IsInputOf, Replies, is_fault, outcome, reads_input};
 ghost use Rattle.fastbit_tool.specs.Effects.{IsOfRequest, LeavesAfter};
-ghost use Rattle.fastbit_tool.specs.Causes.{ComesTo, HasCauseIn, Says};
+ghost use Rattle.fastbit_tool.specs.Causes.{HasCauseIn};
 ghost use Rattle.fastbit_tool.specs.Counting.{CountRuns};
 ghost use Rattle.fastbit_tool.specs.Loading.{LoadRuns};
 
@@ -45,35 +43,32 @@ pub fn run<I: Source, S: Store, K: Sink, L: Ledger>(
     out: &mut K,
     _steps: &mut Steps<L>,
 ) -> Status
-    // Where the store's files stand for a world, the status and what is printed are the definition's, for the input that
-    // the source tells (for some input where it tells none). Where none of the three fails, the status is, unless memory
-    // runs out.
-    ensures reply { ForSomeInput (I.left input.old) (λ bytes. (world : World) → StandsFor (S.files store.old) world
-        → Replies (outcome (asked_by words.now) bytes world) result (K.written out.old) (K.written out.new)) }
-    ensures completeness { ForSomeInput (I.left input.old) (λ bytes. (world : World) → StandsFor (S.files store.old) world
+    // Where the store's files stand for a world, the status and what is printed are the definition's. Where none of the
+    // three fails, the status is, unless memory runs out.
+    ensures reply { (bytes : List ℕ) (world : World) → IsInputOf (request_of (map string_bytes words.now)) (I.left input.old) bytes
+        → StandsFor (S.files store.old) world
+        → Replies (outcome (request_of (map string_bytes words.now)) bytes world) result (K.written out.old) (K.written out.new) }
+    ensures completeness { (bytes : List ℕ) (world : World) → IsInputOf (request_of (map string_bytes words.now)) (I.left input.old) bytes
+        → StandsFor (S.files store.old) world
         → (Rose (I.faults input.old) (I.faults input.new) → ⊥) → (Rose (S.faults store.old) (S.faults store.new) → ⊥)
-        → (Rose (K.faults out.old) (K.faults out.new) → ⊥) → Completes (outcome (asked_by words.now) bytes world) result) }
-    ensures end { takes_input (asked_by words.now) ≡ true → result ≡ Status.Done → IsAtEnd (I.left input.new) }
+        → (Rose (K.faults out.old) (K.faults out.new) → ⊥) → Completes (outcome (request_of (map string_bytes words.now)) bytes world) result }
+    ensures end { reads_input (request_of (map string_bytes words.now)) ≡ true → result ≡ Status.Done → IsAtEnd (I.left input.new) }
+    ensures input { reads_input (request_of (map string_bytes words.now)) ≡ false
+        → (I.left input.new ≡ I.left input.old) × (I.faults input.new ≡ I.faults input.old) }
 
     // And the files stand for the world after its effects.
-    ensures effects { ForSomeInput (I.left input.old) (λ bytes. (world : World) → StandsFor (S.files store.old) world
-        → LeavesAfter (outcome (asked_by words.now) bytes world).effects world result (S.files store.new)) }
-
-    // Over every store: only files of the dataset that the request names change, and none where it is refused.
-    ensures kept { ChangesAmong (IsOfRequest (asked_by words.now)) (S.files store.old) (S.files store.new) }
+    ensures effects { (bytes : List ℕ) (world : World) → IsInputOf (request_of (map string_bytes words.now)) (I.left input.old) bytes
+        → StandsFor (S.files store.old) world
+        → LeavesAfter (outcome (request_of (map string_bytes words.now)) bytes world).effects world result (S.files store.new) }
+    ensures kept { ChangesAmong (IsOfRequest (request_of (map string_bytes words.now))) (S.files store.old) (S.files store.new) }
     ensures refused { is_fault result ≡ false → result ≢ Status.Done → SameFiles (S.files store.old) (S.files store.new) }
 
-    // Each status has its cause, and what it comes to is printed.
-    ensures causes { HasCauseIn (asked_by words.now) (I.left input.old) (S.files store.old) result }
-    ensures prints { Says (ComesTo (asked_by words.now) (I.left input.old) (S.files store.old)) result (K.written out.old) (K.written out.new) }
-
-    // A failure of the outside is told, as such and only then, and yields to each refusal that stands before it.
+    // Over every source and store, each status has its cause.
+    ensures causes { HasCauseIn (request_of (map string_bytes words.now)) (I.left input.old) (S.files store.old) result }
     ensures read_cause { HasCause (I.faults input.old) (I.faults input.new) (result ≡ Status.ReadFault) }
     ensures store_cause { HasCause (S.faults store.old) (S.faults store.new) (result ≡ Status.StoreFault) }
     ensures print_cause { HasCause (K.faults out.old) (K.faults out.new) (result ≡ Status.SinkFault) }
-    ensures order { Yields (asked_by words.now) (I.left input.old) result }
-    ensures untouched { takes_input (asked_by words.now) ≡ false
-        → (I.left input.new ≡ I.left input.old) × (I.faults input.new ≡ I.faults input.old) }
+    ensures unread { result ≡ Status.ReadFault → K.written out.new ≡ K.written out.old }
 {
     match request(alloc, words) {
         Err(_) => Status::OutOfMemory,
@@ -94,8 +89,6 @@ fn run_load<I: Source, S: Store, K: Sink>(
     requires text { IsUtf8 asked.now.schema }
     ensures runs { LoadRuns asked.now (I.left input.old) (S.files store.old) (S.files store.new) (K.written out.old) (K.written out.new) result }
     ensures end { result ≡ Status.Done → IsAtEnd (I.left input.new) }
-    ensures untouched { is_ok (load_schema asked.now.schema) ≡ false
-        → (I.left input.new ≡ I.left input.old) × (I.faults input.new ≡ I.faults input.old) }
     ensures read_cause { HasCause (I.faults input.old) (I.faults input.new) (result ≡ Status.ReadFault) }
     ensures store_cause { HasCause (S.faults store.old) (S.faults store.new) (result ≡ Status.StoreFault) }
     ensures print_cause { HasCause (K.faults out.old) (K.faults out.new) (result ≡ Status.SinkFault) }

@@ -7,8 +7,8 @@ use fb_outside::{FailAt, MemSink, MemSource, MemStore};
 use std::alloc::AllocError;
 use std::marker::Brand;
 use std::process::Abort;
+use std::sync::ledger::Blank;
 use std::test::Fail;
-use steps::{Blank, Count};
 
 /// Runs a command, and answers its status's number.
 fn answer<L: Ledger>(
@@ -42,7 +42,7 @@ struct Case<'a> {
     printed: &'static str,
 }
 
-fn expect<R: Abort + AllocGlobal + Count>(
+fn expect<R: Abort + AllocGlobal>(
     rt: &R,
     store: &mut MemStore,
     case: &Case,
@@ -50,7 +50,14 @@ fn expect<R: Abort + AllocGlobal + Count>(
     let mut source = MemSource::make(rt.alloc(), case.input, 1 << 16, case.source_fails)?;
     let mut out = MemSink::make(rt.alloc(), case.sink_fails)?;
     let words = case.words;
-    let code = answer::<Brand>(rt.alloc(), rt.blank(), &words, &mut source, store, &mut out)?;
+    let code = answer::<Brand>(
+        rt.alloc(),
+        Blank::new(1),
+        &words,
+        &mut source,
+        store,
+        &mut out,
+    )?;
     assert!(rt; code == case.code, "{}", case.printed);
     assert!(rt;
         out.written() == case.printed.as_bytes(),
@@ -228,7 +235,7 @@ fn refuses_words_and_schemas(rt: HostRuntime) -> Result<(), Fail> {
 }
 
 /// Puts a file.
-fn keep<R: Abort + AllocGlobal + Count>(
+fn keep<R: Abort + AllocGlobal>(
     rt: &R,
     store: &mut MemStore,
     name: &str,
@@ -242,7 +249,7 @@ fn keep<R: Abort + AllocGlobal + Count>(
 }
 
 /// Asks a dataset in a store for a count.
-fn expect_asked<R: Abort + AllocGlobal + Count>(
+fn expect_asked<R: Abort + AllocGlobal>(
     rt: &R,
     store: &mut MemStore,
     dir: &'static str,

@@ -6,6 +6,3 @@ pub mod Names
 pub mod NameTests
 pub mod Memory
 pub mod MemFiles
-pub mod Puts
-pub mod Answers
-pub mod Open

@@ -159,16 +159,15 @@ impl Store for MemStore {
         ensures passes { IsOk result → IsNone (next_fault self.old.counted) }
         ensures after { self.new ≡ after_put self.old name.now bytes.now result }
     {
-        if let Some(false) = self.schedule.next() {
-            self.schedule.count();
+        let fault = self.schedule.count();
+        if let Some(false) = fault {
             return Err(Trouble::Failed);
         }
-        // Memory may run out here: then the call doesn't count, and nothing changed.
         match keep_file(self.alloc, &mut self.files, name, bytes) {
             Ok(()) => {}
             Err(_) => return Err(Trouble::OutOfMemory),
         }
-        match self.schedule.count() {
+        match fault {
             Some(_) => Err(Trouble::Failed),
             None => Ok(()),
         }

@@ -2,4 +2,3 @@ pub mod OpenLemmas
 pub mod CountLemmas
 pub mod ScanLemmas
 pub mod WorldLemmas
-pub mod AskedLemmas

@@ -4,12 +4,7 @@ use Rattle.std.specs.List.{find, flat_map}
 use Rattle.std.specs.Option.{is_none}
 use Rattle.fb_types.specs.declared.schemas.Column.{Column}
 use Rattle.fb_types.specs.Schemas.{place_of}
-use Rattle.where_grammar.specs.declared.clause.Atom.{Atom}
-use Rattle.where_grammar.specs.declared.clause.Atom.TheVariants.{Compare}
 use Rattle.where_grammar.specs.declared.clause.Clause.{Clause}
-use Rattle.where_grammar.specs.declared.clause.Clause.TheVariants.{One}
-use Rattle.where_grammar.specs.declared.clause.Clause.TheViews.{out-Clause}
-use Rattle.where_grammar.specs.declared.clause.Op.TheVariants.{Less}
 use Rattle.where_grammar.specs.declared.clause.Clause.TheOpen.{Clause-F}
 use Rattle.where_grammar.specs.declared.clause.Clause.TheFolds.{fold-Clause}
 use Rattle.where_grammar.specs.declared.clause.QueryKind.{QueryKind}
@@ -25,24 +20,8 @@ abbrev pub clause_behind : Option (List ℕ) → Result Clause QueryKind
 clause_behind None = Err Syntax
 clause_behind (Some rest) = read_where rest
 
--- as yet a question has one form, `NAME < NUMBER`
-abbrev pub less_than : Atom → Result Clause QueryKind
-less_than (Compare name Less value) = Ok (One (Compare name Less value))
-less_than _ = Err Syntax
-
-abbrev pub less_alone : Clause-F Clause → Result Clause QueryKind
-less_alone (Clause-F.Or parts) = Err Syntax
-less_alone (Clause-F.Xor parts) = Err Syntax
-less_alone (Clause-F.And parts) = Err Syntax
-less_alone (Clause-F.Not part) = Err Syntax
-less_alone (Clause-F.One condition) = less_than condition
-
-abbrev pub asked : Result Clause QueryKind → Result Clause QueryKind
-asked (Ok clause) = less_alone (out-Clause clause)
-asked (Err kind) = Err kind
-
 abbrev pub read_query : List ℕ → Result Clause QueryKind
-read_query text = asked (clause_behind (after_where text))
+read_query text = clause_behind (after_where text)
 
 abbrev pub clause_or_refusal : Result Clause QueryKind → Result Clause Status
 clause_or_refusal (Ok clause) = Ok clause

@@ -1,12 +1,11 @@
 -- What the steps of a question give, in the words of what it comes to.
-use Rattle.std.specs.Prelude.{◌≡◌, ⊤, ℕ, ℤ, Bool, true, false, ◌==◌, ◌&&◌, List, [], ◌∷◌, Option, Some, None, IfSome, Result, Ok, Err}
+use Rattle.std.specs.Prelude.{◌≡◌, ⊤, ℕ, ℤ, Bool, true, false, ◌==◌, ◌&&◌, List, [], ◌∷◌, Option, IfSome, Result, Err}
 use Rattle.fb_outside.specs.Files.{Files, file_at}
 use Rattle.fb_types.specs.declared.schemas.Column.{Column}
 use Rattle.where_grammar.specs.declared.clause.Atom.TheVariants.{Compare}
 use Rattle.where_grammar.specs.declared.clause.Clause.{Clause}
 use Rattle.where_grammar.specs.declared.clause.Clause.TheVariants.{One}
 use Rattle.where_grammar.specs.declared.clause.QueryKind.{QueryKind}
-use Rattle.where_grammar.specs.declared.clause.QueryKind.TheVariants.{Syntax}
 use Rattle.where_grammar.specs.Holds.{compares}
 use Rattle.part_meta.specs.declared.catalog.Catalog.{Catalog}
 use Rattle.world.specs.World.{is_int}
@@ -19,11 +18,6 @@ use Rattle.ibis.specs.Found.{Gives, Unopened, count_in, is_of_files, passing_in}
 
 abbrev pub clause_of_comparison : Comparison → Clause
 clause_of_comparison c = One (Compare c.name c.op c.limit)
-
--- what a clause is asked as
-abbrev pub asked_as : Option Comparison → Result Clause QueryKind
-asked_as None = Err Syntax
-asked_as (Some c) = Ok (clause_of_comparison c)
 
 abbrev pub meets : Comparison → ℤ → Bool
 meets c number = compares c.op number c.limit

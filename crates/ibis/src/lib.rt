@@ -5,12 +5,11 @@ mod opening;
 mod query;
 mod scan;
 
-ghost use Rattle.std.specs.Prelude.{◌≡◌, true, IfOk, IfErr, IsErrOf, IsUtf8, is_ok};
+ghost use Rattle.std.specs.Prelude.{◌≡◌, IfOk, IfErr, IsErrOf, IsUtf8};
 ghost use Rattle.fb_outside.specs.Causes.{HasCause};
 ghost use Rattle.fb_outside.specs.Files.{SameFiles};
 ghost use Rattle.fb_outside.specs.Names.{IsPath};
 ghost use Rattle.ibis.specs.Found.{Answers};
-ghost use Rattle.ibis.specs.Query.{read_query};
 
 use crate::opening::open;
 use crate::query::{Comparison, comparison_of};
@@ -32,9 +31,6 @@ pub fn count<S: Store>(
     ensures cause { HasCause (S.faults store.old) (S.faults store.new) (IsErrOf result Stop.StoreFault) }
     ensures files { SameFiles (S.files store.old) (S.files store.new) }
     ensures answers { Answers dir.now query.now (S.files store.old) result }
-
-    // The store is asked where the query's text isn't refused.
-    ensures asks_store { IsErrOf result Stop.StoreFault → is_ok (read_query query.now) ≡ true }
 {
     let Ok(text) = str::from_utf8(query.bytes()) else {
         unreachable!()

@@ -1,8 +1,8 @@
 //! The comparison that a query asks for.
 
 ghost use Rattle.std.specs.Prelude.{◌≡◌, Ok, IfOk, IfErr};
-ghost use Rattle.ibis.specs.Query.{asked, less_than, read_query};
-ghost use Rattle.ibis.specs.Steps.{StopsAtText, asked_as, clause_of_comparison, meets};
+ghost use Rattle.ibis.specs.Query.{read_query};
+ghost use Rattle.ibis.specs.Steps.{StopsAtText, clause_of_comparison, meets};
 
 use fb_types::ColName;
 use statuses::{Status, Stop};
@@ -33,43 +33,6 @@ impl Comparison {
     }
 }
 
-/// The comparison that the condition is, as yet by `<` alone.
-fn less_than(condition: Atom) -> Option<Comparison>
-    ensures { asked_as result ≡ less_than condition }
-{
-    match condition {
-        Atom::Compare { name, op, value } => match op {
-            Op::Less => Some(Comparison {
-                name,
-                op,
-                limit: value,
-            }),
-            _ => None,
-        },
-        Atom::Double { .. } => None,
-        Atom::Between { .. } => None,
-        Atom::Numbers { .. } => None,
-        Atom::Same { .. } => None,
-        Atom::Other { .. } => None,
-        Atom::Texts { .. } => None,
-        Atom::Like { .. } => None,
-        Atom::Exists { .. } => None,
-    }
-}
-
-/// The comparison that the clause is.
-fn asked_of(clause: Clause) -> Option<Comparison>
-    ensures { asked_as result ≡ asked (Ok clause) }
-{
-    match clause {
-        Clause::Or(_) => None,
-        Clause::Xor(_) => None,
-        Clause::And(_) => None,
-        Clause::Not(_) => None,
-        Clause::One(condition) => less_than(condition),
-    }
-}
-
 /// The comparison that the query's text spells.
 pub(crate) fn comparison_of(alloc: Global, text: &str) -> Result<Comparison, Stop>
     ensures ok { IfOk result (λ c. read_query text.now ≡ Ok (clause_of_comparison c)) }
@@ -79,10 +42,12 @@ pub(crate) fn comparison_of(alloc: Global, text: &str) -> Result<Comparison, Sto
         return Err(bad_query(QueryKind::Syntax));
     };
     match parse_where(alloc, rest) {
-        Ok(clause) => match asked_of(clause) {
-            Some(comparison) => Ok(comparison),
-            None => Err(bad_query(QueryKind::Syntax)),
-        },
+        Ok(Clause::One(Atom::Compare { name, op, value })) => Ok(Comparison {
+            name,
+            op,
+            limit: value,
+        }),
+        Ok(_) => unreachable!(),
         Err(ClauseFault::Bad { kind }) => Err(bad_query(kind)),
         Err(ClauseFault::OutOfMemory) => Err(Stop::OutOfMemory),
     }

@@ -14,7 +14,7 @@ use Rattle.index_spec.specs.Tokens.{tokens_of, Spells}
 use Rattle.index_spec.specs.Options.{form_of, IsForm}
 use Rattle.index_spec.specs.Meaning.{meaning, verdict, checked, draft, repeats, any_outside, is_counted, is_bounded}
 use Rattle.index_spec.specs.Language.{IsSpelledBy, answer_by, spec_of, Gives, IsToldByText}
-use Rattle.lexing.proofs.Cases.{chained}
+use Rattle.index_spec.proofs.Cases.{chained}
 use Rattle.index_spec.proofs.Spelled.{tokens_of-spelled}
 use Rattle.index_spec.proofs.Reread.{spelled-tokens_of}
 use Rattle.index_spec.proofs.Formed.{form_of-formed}

@@ -3,8 +3,8 @@ use Rattle.std.proofs.Common.{◌≡◌, ℕ, zero, suc, ◌+◌, ◌≤◌, ◌
 use Rattle.std.specs.Prelude.{Some, ◌↔◌}
 use Rattle.std.specs.List.{Contains, list_all, list_any, find, count_by}
 use Rattle.std.proofs.lemmas.List.Sums.{sum_by-cons}
-use Rattle.lexing.proofs.Cases.{chosen}
-use Rattle.lexing.proofs.Runs.{and_parts, and_both}
+use Rattle.index_spec.proofs.Cases.{chosen}
+use Rattle.index_spec.proofs.Runs.{and_parts, and_both}
 
 pub nowhere : {X : Type 0} (x : X) → Contains [] x → ⊥
 nowhere x h = omega (arith, h.1)

@@ -8,25 +8,15 @@ use Rattle.std.proofs.lemmas.Fmt.{digits_decimal, digits_value-decimal, decimal_
 use Rattle.std.proofs.lemmas.Int.{ints}
 use Rattle.index_spec.specs.declared.token.Token.{Token}
 use Rattle.index_spec.specs.declared.token.Token.TheVariants as t
-use Rattle.lexing.specs.Blanks.{StopsAt}
-use Rattle.lexing.specs.Tokens as lexing
-use Rattle.index_spec.specs.Tokens.{minus, value_from, magnitude, signed, IsNumeral, IsWritten, EndsAt, IsToken, Spells}
+use Rattle.index_spec.specs.Tokens.{minus, value_from, magnitude, signed, IsNumeral, IsWritten, StopsAt, EndsAt, Spells}
 use Rattle.index_spec.specs.Language.{IsInRange}
-use Rattle.lexing.proofs.Laws.{blank_before, token_before}
-
--- the size of the whole text decides nothing here
-sized : (m n : ℕ) (text : List ℕ) (ts : List Token) → lexing.Spells IsToken m text ts → lexing.Spells IsToken n text ts
-sized m n text [] spells = spells
-sized m n text (token ∷ ts) spells =
-    let at = spells.1.0 in
-    (spells.0, (record { blanks = at.blanks; behind = at.behind; cut = at.cut; all_blank = at.all_blank; here = at.here }, sized m n spells.0 ts spells.1.1))
+use Rattle.index_spec.proofs.Spelled.{blank_before}
 
 pub put : (token : Token) (form rest : List ℕ) (ts : List Token) → IsWritten form token → EndsAt token rest → Spells rest ts → Spells (form ++ rest) (token ∷ ts)
-put token form rest ts written ends spells =
-    token_before IsToken (length (form ++ rest)) (form ++ rest) token rest ts (record { form = form; cut = refl; written = written; ends = ends }) (sized (length rest) (length (form ++ rest)) rest ts spells)
+put token form rest ts written ends spells = (rest, (record { blanks = []; form = form; cut = refl; all_blank = refl; written = written; ends = ends }, spells))
 
 pub put_blank : (rest : List ℕ) (ts : List Token) → Spells rest ts → Spells (32 ∷ rest) ts
-put_blank rest ts spells = blank_before IsToken (length (32 ∷ rest)) 32 rest ts refl (sized (length rest) (length (32 ∷ rest)) rest ts spells)
+put_blank rest ts spells = blank_before 32 rest ts refl spells
 
 abbrev AllDigits : List ℕ → Type 0
 AllDigits digits = list_all is_ascii_digit digits ≡ true

@@ -1,6 +1,7 @@
 -- The tokens that a text spells are those that the function gives.
 use Rattle.std.proofs.Common.{◌≡◌, ℕ, ◌<◌, Bool, true, false, List, [], ◌∷◌, ◌++◌, length, get_or, take, drop, refl, sym, ap, subst, ◌∙◌, eqb, arith}
 use Rattle.std.specs.Prelude.{Some}
+use Rattle.std.specs.Option.{option_map}
 use Rattle.std.specs.List.{prefix_len, list_all}
 use Rattle.std.specs.Char.{is_ascii_digit}
 use Rattle.std.proofs.lemmas.List.{take_at, drop_at}
@@ -10,16 +11,17 @@ use Rattle.index_spec.specs.declared.word.Word.TheVariants as w
 use Rattle.index_spec.specs.declared.token.Token.{Token}
 use Rattle.index_spec.specs.declared.token.Token.TheVariants as t
 use Rattle.index_spec.specs.Words.{spelling, word_of}
-use Rattle.lexing.specs.Blanks.{is_blank, StopsAt}
-use Rattle.lexing.proofs.Laws as lexing
-use Rattle.lexing.proofs.Laws.{IsComplete, spelled-tokens_from}
-use Rattle.index_spec.specs.Tokens.{is_letter, in_word, minus, magnitude, signed, word_at, number_at, token_at, told, reader, all_or_none, tokens_of, IsWritten, EndsAt, IsToken, Spells}
-use Rattle.index_spec.specs.Shorter.{reader-shorter}
-use Rattle.lexing.proofs.Runs.{prefix_len-cut, and_parts}
+use Rattle.index_spec.specs.Tokens.{is_blank, is_letter, in_word, minus, magnitude, signed, word_at, number_at, token_at, tokens_of, IsWritten, StopsAt, EndsAt, Spells}
+use Rattle.index_spec.proofs.Runs.{prefix_len-cut, and_parts}
+use Rattle.index_spec.proofs.Lexing.{tokens_of-blank, tokens_of-some, tokens_of-empty}
 
 -- the token is read at the front, where no blank stands
-abbrev pub Reads : List ℕ → Token → List ℕ → Type 0
-Reads text token rest = lexing.Reads reader 0 text token rest
+pub record Reads (text : List ℕ) (token : Token) (rest : List ℕ) : Type 0 where
+  pub first : ℕ
+  pub others : List ℕ
+  pub cons : text ≡ first ∷ others
+  pub visible : is_blank first ≡ false
+  pub found : token_at (first ∷ others) ≡ Some (token, rest)
 
 -- ---- words
 
@@ -68,7 +70,7 @@ word_reads word rest stops =
     let no_dash : eqb b 45 ≡ false = f.no_dash in
     let letter : is_letter b ≡ true = f.letter in
     let found : token_at (b ∷ bs) ≡ Some (t.Word word, rest) = rw (no_dash, letter) (ap word_at (sym joined) ∙ word_again word rest stops) in
-    record { first = b; others = bs; cons = joined; visible = f.visible; found = ap told found }
+    record { first = b; others = bs; cons = joined; visible = f.visible; found = found }
 
 -- ---- numbers
 
@@ -98,12 +100,12 @@ positive_reads (b ∷ bs) rest all some stops =
     let no_dash : eqb b 45 ≡ false = f.no_dash in
     let no_letter : is_letter b ≡ false = f.no_letter in
     let found : token_at (b ∷ (bs ++ rest)) ≡ Some (t.Number (signed false (magnitude (b ∷ bs))), rest) = rw (no_dash, no_letter, digit) (digits_again false (b ∷ bs) rest all some stops) in
-    record { first = b; others = bs ++ rest; cons = refl; visible = f.visible; found = ap told found }
+    record { first = b; others = bs ++ rest; cons = refl; visible = f.visible; found = found }
 
 negative_reads : (digits rest : List ℕ) → list_all is_ascii_digit digits ≡ true → 0 < length digits → StopsAt is_ascii_digit rest → Reads (45 ∷ (digits ++ rest)) (t.Number (signed true (magnitude digits))) rest
 unfolding token_at
 negative_reads digits rest all some stops =
-    record { first = 45; others = digits ++ rest; cons = refl; visible = refl; found = ap told (digits_again true digits rest all some stops) }
+    record { first = 45; others = digits ++ rest; cons = refl; visible = refl; found = digits_again true digits rest all some stops }
 
 number_reads : (is_negative : Bool) (digits rest : List ℕ) → list_all is_ascii_digit digits ≡ true → 0 < length digits → StopsAt is_ascii_digit rest → Reads ((minus is_negative ++ digits) ++ rest) (t.Number (signed is_negative (magnitude digits))) rest
 number_reads true digits rest all some stops = negative_reads digits rest all some stops
@@ -115,7 +117,7 @@ abbrev pub ReadsForm : List ℕ → List ℕ → Token → Type 0
 ReadsForm rest form token = Reads (form ++ rest) token rest
 
 sign_reads : (b : ℕ) (token : Token) (form rest : List ℕ) → is_blank b ≡ false → token_at (b ∷ rest) ≡ Some (token, rest) → form ≡ b ∷ [] → ReadsForm rest form token
-sign_reads b token form rest visible found e = subst (λ f. ReadsForm rest f token) (sym e) (record { first = b; others = rest; cons = refl; visible = visible; found = ap told found })
+sign_reads b token form rest visible found e = subst (λ f. ReadsForm rest f token) (sym e) (record { first = b; others = rest; cons = refl; visible = visible; found = found })
 
 pub token_reads : (token : Token) (form rest : List ℕ) → IsWritten form token → EndsAt token rest → Reads (form ++ rest) token rest
 unfolding token_at
@@ -133,11 +135,24 @@ token_reads (t.Number z) form rest is ends =
 
 -- ---- the whole text
 
-pub reader_complete : IsComplete reader IsToken
-reader_complete at text token rest is =
-    let reads = token_reads token is.form rest is.written is.ends in
-    record { first = reads.first; others = reads.others; cons = is.cut ∙ reads.cons; visible = reads.visible; found = reads.found }
+skipped : (blanks text : List ℕ) → list_all is_blank blanks ≡ true → tokens_of (blanks ++ text) ≡ tokens_of text
+skipped [] text all = refl
+skipped (b ∷ bs) text all =
+    let parts = and_parts (is_blank b) (list_all is_blank bs) all in
+    tokens_of-blank b (bs ++ text) parts.0 ∙ skipped bs text parts.1
+
+all_blank : (text : List ℕ) → list_all is_blank text ≡ true → tokens_of text ≡ Some []
+all_blank [] all = tokens_of-empty [] refl
+all_blank (b ∷ bs) all =
+    let parts = and_parts (is_blank b) (list_all is_blank bs) all in
+    tokens_of-blank b bs parts.0 ∙ all_blank bs parts.1
 
 pub spelled-tokens_of : (text : List ℕ) (ts : List Token) → Spells text ts → tokens_of text ≡ Some ts
-unfolding tokens_of
-spelled-tokens_of text ts spells = ap all_or_none (spelled-tokens_from reader IsToken reader-shorter reader_complete (length text) text ts spells)
+spelled-tokens_of text [] spells = all_blank text spells
+spelled-tokens_of text (token ∷ ts) spells =
+    let rest = spells.0 in
+    let at = spells.1.0 in
+    let reads = token_reads token at.form rest at.written at.ends in
+    let more : tokens_of rest ≡ Some ts = spelled-tokens_of rest ts spells.1.1 in
+    let here : tokens_of (at.form ++ rest) ≡ option_map (λ x. token ∷ x) (tokens_of rest) = ap tokens_of reads.cons ∙ tokens_of-some reads.first reads.others (token, rest) reads.visible reads.found in
+    ap tokens_of at.cut ∙ (skipped at.blanks (at.form ++ rest) at.all_blank ∙ (here ∙ ap (option_map (λ x. token ∷ x)) more))

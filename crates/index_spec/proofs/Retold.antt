@@ -21,7 +21,7 @@ use Rattle.index_spec.specs.Words.{same_word}
 use Rattle.index_spec.specs.Options.{plain}
 use Rattle.index_spec.specs.Meaning.{fits, all_fit, has, is_among, are_among, has_all, is_set, repeats, lookup, number_in, number_named, numbers_in, numbers_named, coarse_in, coarse_named, within, draft_binning, draft_encoding, draft, outside, has_outside, any_outside, is_binning_counted, is_encoding_counted, rises, is_bounded, verdict, meaning}
 use Rattle.index_spec.specs.Language.{option, IsInRange, IsGivenBinning, IsGivenEncoding, IsGiven, binning_options, coarse_word, encoding_options, HasOptions}
-use Rattle.lexing.proofs.Runs.{and_both}
+use Rattle.index_spec.proofs.Runs.{and_both}
 use Rattle.index_spec.proofs.Members.{here, later, all_same, any_same, found_once, SameMembers}
 use Rattle.index_spec.proofs.Sets.{no_repeats, word_refl}
 

@@ -1,8 +1,8 @@
 -- The tokens that the function gives are those that the text spells.
-use Rattle.std.proofs.Common.{◌≡◌, ℕ, ◌≤◌, ◌<◌, Bool, true, false, cond, List, [], ◌∷◌, ◌++◌, length, take, drop, refl, sym, ap, subst, ◌∙◌, inl, inr, eqb, eqb-true, append_assoc, arith}
-use Rattle.std.specs.Prelude.{Option, Some, None, Result, Ok, Err}
-use Rattle.std.specs.Option.{option_map}
-use Rattle.std.specs.List.{prefix_len, find}
+use Rattle.std.proofs.Common.{◌≡◌, ℕ, zero, suc, ◌≤◌, ◌<◌, Bool, true, false, cond, List, [], ◌∷◌, ◌++◌, length, take, drop, refl, sym, ap, subst, ◌∙◌, inl, inr, eqb, eqb-true, append_assoc, arith}
+use Rattle.std.specs.Prelude.{Option, Some, None}
+use Rattle.std.specs.Option.{option_map, option_and_then}
+use Rattle.std.specs.List.{prefix_len, list_all, find}
 use Rattle.std.specs.Str.{bytes_eq}
 use Rattle.std.specs.Char.{is_ascii_digit}
 use Rattle.std.proofs.lemmas.List.{take-append-drop, length-take-le}
@@ -14,13 +14,9 @@ use Rattle.index_spec.specs.declared.word.TheConstants.{WORDS}
 use Rattle.index_spec.specs.declared.token.Token.{Token}
 use Rattle.index_spec.specs.declared.token.Token.TheVariants as t
 use Rattle.index_spec.specs.Words.{spelling, word_of}
-use Rattle.lexing.specs.Tokens as lexing
-use Rattle.lexing.proofs.Laws.{IsSound, tokens_from-spelled}
-use Rattle.index_spec.specs.declared.token.NoToken.{NoToken}
-use Rattle.index_spec.specs.Shorter.{reader-shorter}
-use Rattle.index_spec.specs.Tokens.{is_letter, in_word, sign_of, minus, magnitude, signed, word_at, number_at, token_at, told, reader, all_or_none, tokens_of, IsNumeral, IsWritten, EndsAt, IsInFront, IsToken, Spells}
-use Rattle.lexing.proofs.Cases.{chosen, guarded, mapped}
-use Rattle.lexing.proofs.Runs.{front_passes, rest_stops}
+use Rattle.index_spec.specs.Tokens.{is_blank, is_letter, in_word, sign_of, minus, magnitude, signed, word_at, number_at, token_at, tokens_within, tokens_of, IsNumeral, IsWritten, EndsAt, Spells}
+use Rattle.index_spec.proofs.Cases.{chosen, guarded, mapped, chained}
+use Rattle.index_spec.proofs.Runs.{front_passes, rest_stops, and_both}
 
 find_passes : {X : Type 0} (p : X → Bool) (xs : List X) (x : X) → find p xs ≡ Some x → p x ≡ true
 find_passes p [] x e = cc
@@ -34,8 +30,15 @@ word_of_spelled : (form : List ℕ) (w : Word) → word_of form ≡ Some w → f
 unfolding word_of
 word_of_spelled form w e = sym ((bytes_eq-Decides (spelling w) form).0 (find_passes (λ v. bytes_eq (spelling v) form) WORDS w e))
 
+-- a token with no blank before it
+pub record Cuts (text : List ℕ) (token : Token) (rest : List ℕ) : Type 0 where
+  pub form : List ℕ
+  pub cut : text ≡ form ++ rest
+  pub written : IsWritten form token
+  pub ends : EndsAt token rest
+
 abbrev CutsAt : List ℕ → Token × List ℕ → Type 0
-CutsAt text found = IsInFront text found.0 found.1
+CutsAt text found = Cuts text found.0 found.1
 
 word_cuts : (text : List ℕ) (found : Token × List ℕ) → word_at text ≡ Some found → CutsAt text found
 unfolding word_at
@@ -116,19 +119,34 @@ token_cuts (b ∷ bs) found e =
       ]
     ]
 
--- ---- the whole text
+-- a blank before a text leaves its tokens
+pub blank_before : (b : ℕ) (bs : List ℕ) (ts : List Token) → is_blank b ≡ true → Spells bs ts → Spells (b ∷ bs) ts
+blank_before b bs [] blank spells = and_both (is_blank b) (list_all is_blank bs) blank spells
+blank_before b bs (token ∷ ts) blank spells =
+    let at = spells.1.0 in
+    (spells.0, (record { blanks = b ∷ at.blanks; form = at.form; cut = ap (λ x. b ∷ x) at.cut; all_blank = and_both (is_blank b) (list_all is_blank at.blanks) blank at.all_blank; written = at.written; ends = at.ends }, spells.1.1))
 
-told_found : (o : Option (Token × List ℕ)) (found : Token × List ℕ) → told o ≡ Ok found → o ≡ Some found
-told_found None found e = absurd cc
-told_found (Some f) found e = let same : f ≡ found = cc in ap Some same
+token_before : (text : List ℕ) (token : Token) (rest : List ℕ) (ts : List Token) → Cuts text token rest → Spells rest ts → Spells text (token ∷ ts)
+token_before text token rest ts cuts spells =
+    (rest, (record { blanks = []; form = cuts.form; cut = cuts.cut; all_blank = refl; written = cuts.written; ends = cuts.ends }, spells))
 
-pub reader_sound : IsSound reader IsToken
-reader_sound at text found e = token_cuts text found (told_found (token_at text) found e)
+empty_spells : (ts : List Token) → Some [] ≡ Some ts → Spells [] ts
+empty_spells [] e = refl
+empty_spells (token ∷ ts) e = cc
 
-all_found : (r : Result (List Token) NoToken) (ts : List Token) → all_or_none r ≡ Some ts → r ≡ Ok ts
-all_found (Ok found) ts e = let same : found ≡ ts = cc in ap Ok same
-all_found (Err fault) ts e = absurd cc
+spelled_within : (n : ℕ) (text : List ℕ) (ts : List Token) → tokens_within n text ≡ Some ts → Spells text ts
+spelled_within n [] ts e = empty_spells ts e
+spelled_within zero (b ∷ bs) ts e = cc
+spelled_within (suc n) (b ∷ bs) ts e =
+    let after : Token × List ℕ → Option (List Token) = λ found. option_map (λ more. found.0 ∷ more) (tokens_within n found.1) in
+    elim (chosen (is_blank b) (tokens_within n bs) (option_and_then after (token_at (b ∷ bs))) (Some ts) e) [
+      | inl h ↦ blank_before b bs ts h.0 (spelled_within n bs ts h.1)
+      | inr h ↦ (
+          let found = chained after (token_at (b ∷ bs)) ts h.1 in
+          let more = mapped (λ more. found.0.0 ∷ more) (tokens_within n found.0.1) ts found.1.1 in
+          subst (Spells (b ∷ bs)) more.1.1 (token_before (b ∷ bs) found.0.0 found.0.1 more.0 (token_cuts (b ∷ bs) found.0 found.1.0) (spelled_within n found.0.1 more.0 more.1.0)))
+    ]
 
 pub tokens_of-spelled : (text : List ℕ) (ts : List Token) → tokens_of text ≡ Some ts → Spells text ts
 unfolding tokens_of
-tokens_of-spelled text ts e = tokens_from-spelled reader IsToken reader-shorter reader_sound (length text) text ts (all_found (lexing.tokens_of reader text) ts e)
+tokens_of-spelled text ts e = spelled_within (length text) text ts e

@@ -1,16 +1,17 @@
 -- Which tokens a text spells.
-use Rattle.std.specs.Prelude.{◌≡◌, ◌<◌, ℕ, ◌+◌, ◌-◌, ◌*◌, ◌^◌, min, Bool, true, false, ◌&&◌, ◌||◌, if◌then◌else◌, ◌==◌, nat_le, List, [], ◌∷◌, ◌++◌, length, take, drop, Option, Some, None, Result, Ok, Err, ℤ, pos, neg_ℤ, codes}
-use Rattle.std.specs.Option.{option_map}
+use Rattle.std.specs.Prelude.{◌≡◌, ◌<◌, ℕ, zero, suc, ◌+◌, ◌-◌, ◌*◌, ◌^◌, min, Bool, true, false, ◌&&◌, ◌||◌, if◌then◌else◌, ◌==◌, nat_le, List, [], ◌∷◌, ◌++◌, length, take, drop, Option, Some, None, ℤ, pos, neg_ℤ, codes}
+use Rattle.std.specs.Option.{option_map, option_and_then}
 use Rattle.std.specs.List.{prefix_len, list_all}
 use Rattle.std.specs.Char.{is_ascii_digit}
-use Rattle.lexing.specs.Blanks.{StopsAt}
-use Rattle.lexing.specs.Tokens as lexing
 use Rattle.index_spec.specs.Words.{spelling, word_of}
-use Rattle.index_spec.specs.declared.token.NoToken.{NoToken}
 use Rattle.index_spec.specs.declared.token.Token.{Token}
 use Rattle.index_spec.specs.declared.token.Token.TheVariants as t
 
 -- ---- bytes
+
+-- space, tab, line feed, carriage return
+abbrev pub is_blank : ℕ → Bool
+is_blank b = b == 32 || b == 9 || b == 10 || b == 13
 
 abbrev pub is_letter : ℕ → Bool
 is_letter b = nat_le 97 b && nat_le b 122
@@ -60,25 +61,30 @@ IsWritten form t.Comma = form ≡ codes ","
 IsWritten form (t.Word w) = form ≡ spelling w
 IsWritten form (t.Number z) = IsNumeral form z
 
+-- no byte at the front goes on with what stands before
+abbrev pub StopsAt : (ℕ → Bool) → List ℕ → Type 0
+StopsAt goes_on [] = Unit {0}
+StopsAt goes_on (b ∷ bs) = goes_on b ≡ false
+
 -- a word or a number is as long as it can be
 abbrev pub EndsAt : Token → List ℕ → Type 0
 EndsAt (t.Word w) rest = StopsAt in_word rest
 EndsAt (t.Number z) rest = StopsAt is_ascii_digit rest
 EndsAt _ rest = Unit {0}
 
--- the form of the token, and a rest that it doesn't reach into
-pub record IsInFront (text : List ℕ) (token : Token) (rest : List ℕ) : Type 0 where
+-- blanks, the form of the token, and a rest that it doesn't reach into
+pub record BeginsWith (text : List ℕ) (token : Token) (rest : List ℕ) : Type 0 where
+  pub blanks : List ℕ
   pub form : List ℕ
-  pub cut : text ≡ form ++ rest
+  pub cut : text ≡ blanks ++ (form ++ rest)
+  pub all_blank : list_all is_blank blanks ≡ true
   pub written : IsWritten form token
   pub ends : EndsAt token rest
 
-abbrev pub IsToken : ℕ → List ℕ → Token → List ℕ → Type 0
-IsToken at text token rest = IsInFront text token rest
-
 -- The tokens, one after the other, with blanks between, before and after.
 abbrev pub Spells : List ℕ → List Token → Type 0
-Spells text tokens = lexing.Spells IsToken (length text) text tokens
+Spells text [] = list_all is_blank text ≡ true
+Spells text (token ∷ tokens) = (rest : List ℕ) × (BeginsWith text token rest × Spells rest tokens)
 
 -- ---- the same, as a function
 
@@ -107,16 +113,13 @@ token_at (b ∷ bs) =
     else (if is_ascii_digit b then number_at false (b ∷ bs)
     else option_map (λ t. (t, bs)) (sign_of b)))
 
-abbrev pub told : Option (Token × List ℕ) → Result (Token × List ℕ) NoToken
-told None = Err (record {})
-told (Some found) = Ok found
-
-abbrev pub reader : ℕ → List ℕ → Result (Token × List ℕ) NoToken
-reader at text = told (token_at text)
-
-abbrev pub all_or_none : Result (List Token) NoToken → Option (List Token)
-all_or_none (Ok tokens) = Some tokens
-all_or_none (Err fault) = None
+-- a token at each step, at most n of them with the blanks
+abbrev pub tokens_within : ℕ → List ℕ → Option (List Token)
+tokens_within n [] = Some []
+tokens_within zero (b ∷ bs) = None
+tokens_within (suc n) (b ∷ bs) =
+    if is_blank b then tokens_within n bs
+    else option_and_then (λ found. option_map (λ more. found.0 ∷ more) (tokens_within n found.1)) (token_at (b ∷ bs))
 
 unfoldable pub tokens_of : List ℕ → Option (List Token)
-tokens_of text = all_or_none (lexing.tokens_of reader text)
+tokens_of text = tokens_within (length text) text

@@ -5,7 +5,6 @@
 #![tactic(auto)]
 
 mod meaning;
-mod needed;
 mod options;
 mod parsing;
 mod printing;
@@ -13,7 +12,6 @@ mod spec;
 mod token;
 mod word;
 
-pub use needed::needed_bitmaps;
 pub use parsing::parse_spec;
 pub use printing::print_spec;
 pub use spec::{Binning, Coarse, EncodingSpec, Spec, SpecFault, SpecKind};

@@ -4,11 +4,9 @@ ghost use Rattle.std.specs.Prelude.{◌≡◌, ◌≤◌, ◌^◌, length, IfOk}
 ghost use Rattle.std.specs.Option.{option_map};
 ghost use Rattle.std.specs.List.{prefix_len};
 ghost use Rattle.std.specs.Char.{is_ascii_digit};
-ghost use Rattle.index_spec.specs.Tokens.{is_letter, in_word, sign_of, magnitude, signed, word_at, number_at, reader, token_at, tokens_of};
-ghost use Rattle.index_spec.specs.Shorter.{reader-shorter};
+ghost use Rattle.index_spec.specs.Tokens.{is_blank, is_letter, in_word, sign_of, magnitude, signed, word_at, number_at, token_at, tokens_of};
 
 use crate::word::{Word, word_of};
-use lexing::Lexeme;
 use sqlite_items::Items;
 use std::alloc::{AllocError, Global};
 
@@ -24,6 +22,12 @@ pub(crate) enum Token {
     Comma,
     Word(Word),
     Number(i128),
+}
+
+fn is_blank(byte: u8) -> bool
+    ensures { result ≡ is_blank byte }
+{
+    byte == b' ' || byte == b'\t' || byte == b'\n' || byte == b'\r'
 }
 
 fn is_letter(byte: u8) -> bool
@@ -138,37 +142,24 @@ fn token_at(text: &[u8]) -> Option<(Token, &[u8])>
     }
 }
 
-/// No token of the language stands there.
-#[derive(Clone, Copy, Debug)]
-pub(crate) struct NoToken;
-
-impl Lexeme for Token {
-    type Fault = NoToken;
-
-    ghost reader = { reader };
-
-    fn read(
-        _alloc: Global,
-        _at: u32,
-        text: &[u8],
-    ) -> Result<Result<(Token, &[u8]), NoToken>, AllocError> {
-        match token_at(text) {
-            Some(found) => Ok(Ok(found)),
-            None => Ok(Err(NoToken)),
-        }
-    }
-
-    ghost shorter = { reader-shorter };
-}
-
 /// The tokens of a text, None where it isn't a list of tokens with blanks between.
-#[tactic(auto, unfolding(crate::specs::Tokens::tokens_of))]
 pub(crate) fn tokens(alloc: Global, text: &[u8]) -> Result<Option<Items<Token>>, AllocError>
-    requires { length text.now ≤ 131072 }
     ensures { IfOk result (λ found. found ≡ tokens_of text.now) }
 {
-    match lexing::tokens(alloc, text)? {
-        Ok(tokens) => Ok(Some(tokens)),
-        Err(NoToken) => Ok(None),
+    let mut tokens = Items::new(alloc);
+    let mut rest = text;
+    while !rest.is_empty() {
+        if is_blank(rest[0]) {
+            rest = rest.split_at(1).1;
+        } else {
+            match token_at(rest) {
+                None => return Ok(None),
+                Some((token, after)) => {
+                    tokens.push(token)?;
+                    rest = after;
+                }
+            }
+        }
     }
+    Ok(Some(tokens))
 }

@@ -6,7 +6,7 @@ use Rattle.fb_types.specs.declared.schema_text.SchemaKind.TheVariants.{Empty, To
 use Rattle.csv_load.specs.declared.fields.RecordKind.{RecordKind}
 use Rattle.csv_load.specs.declared.fields.RecordKind.TheVariants.{FieldCount, NotWhole, OutOfRange, TextLength}
 use Rattle.where_grammar.specs.declared.clause.QueryKind.{QueryKind}
-use Rattle.where_grammar.specs.declared.clause.QueryKind.TheVariants as query
+use Rattle.where_grammar.specs.declared.clause.QueryKind.TheVariants.{Syntax, Literal, Unknown}
 use Rattle.statuses.specs.declared.DamageKind.{DamageKind}
 use Rattle.statuses.specs.declared.DamageKind.TheVariants.{Missing, Text, Length}
 use Rattle.statuses.specs.declared.LimitKind.{LimitKind}
@@ -46,13 +46,9 @@ record_word TextLength = codes "TextLength"
 
 -- a column that isn't known is named
 unfoldable pub query_word : QueryKind → List ℕ
-query_word query.Length = codes "Length"
-query_word query.Syntax = codes "Syntax"
-query_word query.Literal = codes "Literal"
-query_word query.TextLength = codes "TextLength"
-query_word query.Depth = codes "Depth"
-query_word query.ListLength = codes "ListLength"
-query_word (query.Unknown name) = codes "Unknown " ++ name
+query_word Syntax = codes "Syntax"
+query_word Literal = codes "Literal"
+query_word (Unknown name) = codes "Unknown " ++ name
 
 unfoldable pub damage_word : DamageKind → List ℕ
 damage_word Missing = codes "Missing"

@@ -181,12 +181,8 @@ fn query_kind(alloc: Global, kind: &QueryKind) -> Result<String, AllocError>
     ensures { IfOk result (λ word. string_bytes word ≡ query_word kind.now) }
 {
     match kind {
-        QueryKind::Length => String::from_str(alloc, "Length"),
         QueryKind::Syntax => String::from_str(alloc, "Syntax"),
         QueryKind::Literal => String::from_str(alloc, "Literal"),
-        QueryKind::TextLength => String::from_str(alloc, "TextLength"),
-        QueryKind::Depth => String::from_str(alloc, "Depth"),
-        QueryKind::ListLength => String::from_str(alloc, "ListLength"),
         QueryKind::Unknown(name) => {
             let name = name.as_str();
             format!(in alloc; "Unknown {name}")

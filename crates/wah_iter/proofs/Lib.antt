@@ -1,4 +1,3 @@
-pub mod PackLaws
 pub mod PlacesLaws
 pub mod CountLaws
 pub mod AppendLaws
@@ -6,4 +5,3 @@ pub mod RowLaws
 pub mod WalkLaws
 pub mod RunLaws
 pub mod ApartLaws
-pub mod RangeLaws

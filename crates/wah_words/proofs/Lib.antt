@@ -5,4 +5,3 @@ pub mod StoredLemmas
 pub mod CursorLemmas
 pub mod ReadingLemmas
 pub mod BytesLemmas
-pub mod OnesLemmas

@@ -1,5 +1,4 @@
 ghost use Rattle.std.specs.Prelude.{◌≡◌, ℕ, ◌+◌, ◌*◌, ◌%◌, ◌^◌, ◌<◌, ◌≤◌, true, false, [], ◌∷◌, ◌++◌, length, replicate, IfOk};
-ghost use Rattle.wah_words.specs.Limits.{most_bits};
 ghost use Rattle.wah_words.specs.Places.{places};
 ghost use Rattle.wah_words.specs.Spelling.{words_of};
 
@@ -50,7 +49,7 @@ impl Builder {
     #[inline(always)]
     pub fn len(&self) -> u32
         ensures length { result ≡ length self.now.values }
-        ensures limit { length self.now.values ≤ most_bits }
+        ensures limit { length self.now.values ≤ 4194304 }
 
         // a tail has 1 to 30 values
         ensures open { length self.now.values % 31 ≡ 0 → self.now.has_tail ≡ false }
@@ -72,7 +71,7 @@ impl Builder {
         requires aligned { length self.old.values % 31 ≡ 0 }
         requires room { 1 ≤ self.old.spare }
         requires some { 1 ≤ groups }
-        requires limit { length self.old.values + 31 * groups ≤ most_bits }
+        requires limit { length self.old.values + 31 * groups ≤ 4194304 }
         ensures values { self.new.values ≡ self.old.values ++ replicate (31 * groups) bit }
         ensures spare { (self.old.spare ≤ self.new.spare + 1) × (self.new.spare ≤ self.old.spare) }
         ensures open { self.new.has_tail ≡ false }
@@ -88,7 +87,7 @@ impl Builder {
         requires aligned { length self.old.values % 31 ≡ 0 }
         requires room { 1 ≤ self.old.spare }
         requires group { word < 2 ^ 31 }
-        requires limit { length self.old.values + 31 ≤ most_bits }
+        requires limit { length self.old.values + 31 ≤ 4194304 }
         ensures values { self.new.values ≡ self.old.values ++ places 31 word }
         ensures spare { (self.old.spare ≤ self.new.spare + 1) × (self.new.spare ≤ self.old.spare) }
         ensures open { self.new.has_tail ≡ false }
@@ -105,7 +104,7 @@ impl Builder {
         requires some { 1 ≤ count }
         requires few { count ≤ 30 }
         requires fits { bits < 2 ^ count }
-        requires limit { length self.old.values + count ≤ most_bits }
+        requires limit { length self.old.values + count ≤ 4194304 }
         ensures values { self.new.values ≡ self.old.values ++ places count bits }
         ensures spare { self.new.spare ≡ self.old.spare }
         ensures closed { self.new.has_tail ≡ true }
@@ -121,7 +120,7 @@ impl Builder {
     pub fn push_bit(&mut self, bit: bool)
         requires open { self.old.has_tail ≡ false }
         requires room { 1 ≤ self.old.spare }
-        requires limit { length self.old.values + 1 ≤ most_bits }
+        requires limit { length self.old.values + 1 ≤ 4194304 }
         ensures values { self.new.values ≡ self.old.values ++ bit ∷ [] }
         ensures spare { (self.old.spare ≤ self.new.spare + 1) × (self.new.spare ≤ self.old.spare) }
         ensures open { self.new.has_tail ≡ false }

@@ -29,11 +29,11 @@ returns-in-Err-Refused-clause-read_cause g c =
     let ends = rw c.in-Err-Refused.field-0-is at c.in-Err-Refused.ensures.ends in
     let refusal : IsRefusal c.in-Err-Refused.status =
     IsRefusal-load c.args.asked.now.schema ends.0.input ends.0.there c.in-Err-Refused.status ends.0.is in
-    no_cause _ _ c.load.ensures.read_cause (λ e. let bad = rw (c.in-Err-Refused.is, c.in-Err-Refused.field-0-is) at e in cc) (not_read c.in-Err-Refused.status _ _ _ c.refuse.result refusal.no_fault c.refuse.ensures.prints)
+    no_cause _ _ c.load.ensures.read_cause (not_read c.in-Err-Refused.status _ _ _ c.refuse.result refusal.no_fault c.refuse.ensures.prints)
 
 pub returns-in-Err-Refused-clause-store_cause : goal.returns-in-Err-Refused-clause-store_cause
 returns-in-Err-Refused-clause-store_cause g c =
     let ends = rw c.in-Err-Refused.field-0-is at c.in-Err-Refused.ensures.ends in
     let refusal : IsRefusal c.in-Err-Refused.status =
     IsRefusal-load c.args.asked.now.schema ends.0.input ends.0.there c.in-Err-Refused.status ends.0.is in
-    no_cause _ _ c.load.ensures.store_cause (λ e. let bad = rw (c.in-Err-Refused.is, c.in-Err-Refused.field-0-is) at e in cc) (not_store c.in-Err-Refused.status _ _ _ c.refuse.result refusal.no_fault c.refuse.ensures.prints)
+    no_cause _ _ c.load.ensures.store_cause (not_store c.in-Err-Refused.status _ _ _ c.refuse.result refusal.no_fault c.refuse.ensures.prints)

@@ -14,11 +14,13 @@ returns-in-None-clause-one c =
 pub returns-in-Some-clause-stop : goal.returns-in-Some-clause-stop
 returns-in-Some-clause-stop c =
     rw c.bad_schema.ensures
-    (refused_column c.args.text.now c.in-Ok.schema c.in-Some.column c.in-Ok.ensures.ok
+    (λ input there.
+    refused_column c.args.text.now input there c.in-Ok.schema c.in-Some.column c.in-Ok.ensures.ok
     (ap not_loadable (sym c.columns.ensures.value) ∙ sym c.in-Some.ensures))
 
 pub returns-in-Err-Bad-clause-stop : goal.returns-in-Err-Bad-clause-stop
 returns-in-Err-Bad-clause-stop c =
     rw c.bad_schema-in-Err-Bad.ensures
-    (refused_schema c.args.text.now (record { column = c.in-Err-Bad.column; kind = c.in-Err-Bad.kind })
+    (λ input there.
+    refused_schema c.args.text.now input there (record { column = c.in-Err-Bad.column; kind = c.in-Err-Bad.kind })
     (rw c.in-Err-Bad.field-0-is at c.in-Err-Bad.ensures.bad))

@@ -7,7 +7,7 @@ use Rattle.ibis.proofs.scan.count_blocks.Goals as goal
 pub loop-at-init : goal.loop-at-init
 loop-at-init g c =
     record {
-      unfailed = refl;
+      later = omega arith;
       kept = refl;
       room = length-replicate {A = ℕ} 16384 0;
       few = omega arith;
@@ -23,7 +23,7 @@ returns-then-n-lt-BLOCK_BYTES-clause-counts g c =
 pub loop-at-preserved : goal.loop-at-preserved
 loop-at-preserved g c =
     record {
-      unfailed = (rw c.in_ok-n.was at c.read_at.ensures.cause).told (λ e. cc) ∙ c.loop-at.invariant.unfailed;
+      later = omega (arith, c.loop-at.invariant.later, c.read_at.ensures.cause.later);
       kept = c.read_at.ensures.files ∙ c.loop-at.invariant.kept;
       room = c.read_at.auto.buf ∙ c.loop-at.invariant.room;
       few = omega (arith, c.loop-at.invariant.few, c.count_block-hits.ensures.few, length-take (c.in_ok-n.n - c.in_ok-n.n % 4) c.read_at.new.buf);

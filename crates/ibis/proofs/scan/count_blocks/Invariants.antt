@@ -7,7 +7,7 @@ use Rattle.ibis.proofs.scan.count_blocks.Given as goal
 
 abbrev pub invariant-loop-at : goal.invariant-loop-at
 invariant-loop-at g l = record {
-  unfailed : g.S.Store.faults l.store ≡ g.S.Store.faults l.fn.store;
+  later : g.S.Store.faults l.fn.store ≤ g.S.Store.faults l.store;
   kept : SameFiles (g.S.Store.files l.fn.store) (g.S.Store.files l.store);
   room : length l.block ≡ 16384;
   few : l.hits ≤ l.at;

@@ -1,5 +1,5 @@
 use Rattle.std.specs.Char.{is_ascii_digit}
-use Rattle.lexing.proofs.Runs.{front_passes}
+use Rattle.where_grammar.proofs.Runs.{front_passes}
 use Rattle.where_grammar.proofs.token.number_at.Goals as goal
 
 pub magnitude-requires : goal.magnitude-requires

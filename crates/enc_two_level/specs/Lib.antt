@@ -1,4 +1,0 @@
-pub mod Levels
-pub mod Whole
-pub mod Named
-pub mod Grouped

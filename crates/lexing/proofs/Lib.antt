@@ -1,4 +1,0 @@
-pub mod Cases
-pub mod Runs
-pub mod Steps
-pub mod Laws

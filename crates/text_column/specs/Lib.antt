@@ -1,5 +1,0 @@
-pub mod Words
-pub mod DictionaryFile
-pub mod OpenedDictionary
-pub mod Texts
-pub mod OpenedTexts

@@ -1,5 +1,4 @@
 pub mod LoadLemmas
-pub mod ColumnLemmas
-pub mod CountLemmas
+pub mod AnswerLemmas
 pub mod EndLemmas
 pub mod WorldLemmas

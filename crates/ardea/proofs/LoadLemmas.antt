@@ -1,145 +1,165 @@
 -- The refusals of a load, each where the causes before it don't hold.
-use Rattle.std.proofs.Common.{◌≡◌, ◌+◌, ◌<◌, ◌≤◌, if◌then◌else◌, ℕ, Bool, true, false, List, [], ◌∷◌, ◌++◌, length, nat_le, Option, Some, None, IfSome, Ok, Err, refl, ap, subst, ◌∙◌, arith, length-append}
+use Rattle.std.proofs.Common.{◌≡◌, ◌<◌, ◌≤◌, ℕ, Bool, true, false, List, ◌++◌, length, nat_le, Option, Some, None, IfSome, IsSome, Result, Ok, Err, is_ok, is_some, refl, sym, ap, subst, ◌∙◌, arith}
 use Rattle.std.proofs.lemmas.Bool.{le-leb, leb-true}
-use Rattle.std.proofs.lemmas.List.{append-nil}
-use Rattle.std.proofs.lemmas.List.Elements.{All-head}
-use Rattle.fb_outside.specs.Streams.{Takes, IsAtEnd}
 use Rattle.fb_types.specs.declared.cells.Cell.{Cell}
 use Rattle.fb_types.specs.declared.schemas.Column.{Column}
-use Rattle.fb_types.specs.declared.schema_text.SchemaKind.TheVariants.{BadType}
-use Rattle.fb_types.specs.Names.{IsColumnName}
-use Rattle.fb_types.specs.Schemas.{IsSchema}
 use Rattle.fb_types.specs.SchemaText.{SchemaFault, read_schema}
-use Rattle.world.specs.World.{IsOneInt, is_int}
-use Rattle.world.proofs.OneIntLemmas.{one_int_column}
-use Rattle.csv_load.specs.Input.{TakesSome}
-use Rattle.csv_load.specs.Loaded.{loaded}
+use Rattle.fb_types.specs.Table.{Table}
+use Rattle.csv_load.specs.Loaded.{Fault, loaded}
 use Rattle.command_words.specs.declared.Load.{Load}
-use Rattle.statuses.specs.declared.LimitKind.TheVariants.{Input}
+use Rattle.part_meta.specs.declared.catalog.Catalog.{Catalog}
+use Rattle.dataset.specs.Appended.{refusal}
+use Rattle.dataset.specs.Found.{Found}
+use Rattle.statuses.specs.declared.LimitKind.TheVariants as limit
 use Rattle.statuses.specs.declared.Status.{Status}
-use Rattle.statuses.specs.declared.Status.TheVariants.{BadSchema, SchemaDiffers, Limit}
-use Rattle.ardea.specs.declared.TheConstants.{MAX_INPUT_BYTES}
-use Rattle.ardea.specs.Load.{load_result, load_schema, not_loadable, records_or_refusal}
-use Rattle.statuses.specs.declared.stop.Stop.{Stop}
-use Rattle.statuses.specs.declared.stop.Stop.TheVariants.{Refused, ReadFault, StoreFault, OutOfMemory}
-use Rattle.ardea.specs.Reading.{IsRefused, StopsAtRecords, StopsAtSchema, StopsReading}
+use Rattle.statuses.specs.declared.Status.TheVariants as status
+use Rattle.ardea.specs.Load.{NoFile, Reading, catalog_or_refusal, load_result, load_schema, load_table, most_rows, records_or_refusal, rows_or_refusal, schema_or_refusal, text_or_refusal, unless_refused}
+use Rattle.statuses.specs.Outcome.{◌>>=◌}
+use Rattle.ardea.specs.Order.{asks_by, load_asks_store, load_takes_input}
 
-pub refused_schema : (text input : List ℕ) (there : Bool) (fault : SchemaFault) → read_schema text ≡ Err fault
-    → load_result text input there ≡ Err (BadSchema fault.column fault.kind)
-unfolding load_result load_schema
-refused_schema text input there fault e = rw e refl
+-- ---- the schema
 
-pub refused_column : (text input : List ℕ) (there : Bool) (schema : List Column) (column : ℕ) → read_schema text ≡ Ok schema
-    → not_loadable schema ≡ Some column → load_result text input there ≡ Err (BadSchema column BadType)
-unfolding load_result load_schema
-refused_column text input there schema column e off = rw (e, off) refl
-
-pub loads_schema : (text : List ℕ) (schema : List Column) → read_schema text ≡ Ok schema → not_loadable schema ≡ None
-    → load_schema text ≡ Ok schema
+pub schema_refused : (load : Load) (fault : SchemaFault) → read_schema load.schema ≡ Err fault
+    → load_schema load ≡ Err (status.BadSchema fault.column fault.kind)
 unfolding load_schema
-loads_schema text schema e on = rw (e, on) refl
+schema_refused load fault e = rw e refl
 
-above : (n m : ℕ) (b : Bool) → nat_le n m ≡ b → m < n → b ≡ false
-above n m true e h = absurd (omega (arith, leb-true n m e))
-above n m false e h = refl
+pub above : (n m : ℕ) → m < n → nat_le n m ≡ false
+above n m h = by (nat_le n m) refl
+  where
+    by : (b : Bool) → nat_le n m ≡ b → b ≡ false
+    by true e = absurd (omega (arith, leb-true n m e))
+    by false e = refl
 
-pub refused_length : (text input : List ℕ) (there : Bool) (schema : List Column) → load_schema text ≡ Ok schema → MAX_INPUT_BYTES < length input
-    → load_result text input there ≡ Err (Limit Input (MAX_INPUT_BYTES + 1) MAX_INPUT_BYTES)
+pub rows_refused : (load : Load) (schema : List Column) → read_schema load.schema ≡ Ok schema → most_rows < load.per_part
+    → load_schema load ≡ Err (status.Limit limit.Rows load.per_part most_rows)
+unfolding load_schema
+rows_refused load schema e h = rw (e, above load.per_part most_rows h) refl
+
+pub schema_read : (load : Load) (schema : List Column) → read_schema load.schema ≡ Ok schema → load.per_part ≤ most_rows
+    → load_schema load ≡ Ok schema
+unfolding load_schema
+schema_read load schema e h = rw (e, le-leb load.per_part most_rows h) refl
+
+-- ---- the table: what each step refuses, it is refused for
+
+pub table_schema : (load : Load) (input : List ℕ) (readings : List ℕ → Reading) (why : Status) → load_schema load ≡ Err why
+    → load_table load input readings ≡ Err why
+unfolding load_table
+table_schema load input readings why e = rw e refl
+
+pub table_text : (load : Load) (input : List ℕ) (readings : List ℕ → Reading) (schema : List Column) (why : Status)
+    → load_schema load ≡ Ok schema → text_or_refusal load.file input readings ≡ Err why → load_table load input readings ≡ Err why
+unfolding load_table
+table_text load input readings schema why e bad = rw (e, bad) refl
+
+pub table_records : (load : Load) (input : List ℕ) (readings : List ℕ → Reading) (schema : List Column) (text : List ℕ) (why : Status)
+    → load_schema load ≡ Ok schema → text_or_refusal load.file input readings ≡ Ok text
+    → records_or_refusal (loaded text schema load.skip) ≡ Err why → load_table load input readings ≡ Err why
+unfolding load_table
+table_records load input readings schema text why e read bad = rw (e, read, bad) refl
+
+pub table_done : (load : Load) (input : List ℕ) (readings : List ℕ → Reading) (schema : List Column) (text : List ℕ) (records : List (List Cell))
+    → load_schema load ≡ Ok schema → text_or_refusal load.file input readings ≡ Ok text → loaded text schema load.skip ≡ Ok records
+    → load_table load input readings ≡ Ok (record { schema = schema; records = records })
+unfolding load_table
+table_done load input readings schema text records e read good = rw (e, read, good) refl
+
+-- ---- the load: what refuses the table, the catalog or the records, it is refused for
+
+pub result_table : (load : Load) (input : List ℕ) (readings : List ℕ → Reading) (found : Found) (why : Status)
+    → load_table load input readings ≡ Err why → load_result load input readings found ≡ Err why
 unfolding load_result
-refused_length text input there schema e h = rw (e, above (length input) MAX_INPUT_BYTES (nat_le (length input) MAX_INPUT_BYTES) refl h) refl
+result_table load input readings found why e = rw e refl
 
--- what is left to decide once the input is short enough
-pub refused_records : (text input : List ℕ) (there : Bool) (schema : List Column) (status : Status) → load_schema text ≡ Ok schema
-    → length input ≤ MAX_INPUT_BYTES → records_or_refusal (loaded input schema 0) ≡ Err status → load_result text input there ≡ Err status
+pub result_catalog : (load : Load) (input : List ℕ) (readings : List ℕ → Reading) (found : Found) (table : Table) (why : Status)
+    → load_table load input readings ≡ Ok table → catalog_or_refusal table.schema found ≡ Err why
+    → load_result load input readings found ≡ Err why
 unfolding load_result
-refused_records text input there schema status e h bad = rw (e, le-leb (length input) MAX_INPUT_BYTES h, bad) refl
+result_catalog load input readings found table why e bad = rw (e, bad) refl
 
-pub load_there : (text input : List ℕ) (schema : List Column) (records : List (List Cell)) → load_schema text ≡ Ok schema
-    → length input ≤ MAX_INPUT_BYTES → loaded input schema 0 ≡ Ok records → load_result text input true ≡ Err (SchemaDiffers 0)
+pub result_is : (load : Load) (input : List ℕ) (readings : List ℕ → Reading) (found : Found) (table : Table) (catalog : Catalog)
+    → load_table load input readings ≡ Ok table → catalog_or_refusal table.schema found ≡ Ok catalog
+    → load_result load input readings found ≡ unless_refused table (refusal catalog table.schema load.per_part (length table.records))
 unfolding load_result
-load_there text input schema records e h good = rw (e, le-leb (length input) MAX_INPUT_BYTES h, good) refl
+result_is load input readings found table catalog e good = rw (e, good) refl
 
-pub load_done : (text input : List ℕ) (schema : List Column) (records : List (List Cell)) → load_schema text ≡ Ok schema
-    → length input ≤ MAX_INPUT_BYTES → loaded input schema 0 ≡ Ok records
-    → load_result text input false ≡ Ok (record { schema = schema; records = records })
-unfolding load_result
-load_done text input schema records e h good = rw (e, le-leb (length input) MAX_INPUT_BYTES h, good) refl
+-- ---- whether the input is asked for
 
--- bytes that were taken to the end are all that was left
-pub all_taken : (old new : Option (List ℕ)) (bytes : List ℕ) → Takes old new bytes → IsAtEnd new → IfSome old (λ all. all ≡ bytes)
-all_taken None new bytes taken end = tt
-all_taken (Some all) None bytes taken end = absurd (cc)
-all_taken (Some all) (Some rest) bytes taken end =
-    let is : all ≡ bytes ++ rest = cc in
-    let none : bytes ++ rest ≡ bytes = rw end (append-nil bytes) in
-    is ∙ none
+pub takes_input : (load : Load) (schema : List Column) → load_schema load ≡ Ok schema → load.file ≡ None → load_takes_input load ≡ true
+takes_input load schema e none = rw (e, none) refl
 
--- bytes that came are no more than all that was left
-came_short : (old new : Option (List ℕ)) (bytes : List ℕ) (n : ℕ) → Takes old new bytes → n < length bytes → IfSome old (λ all. n < length all)
-came_short None new bytes n taken more = tt
-came_short (Some all) None bytes n taken more = absurd (cc)
-came_short (Some all) (Some rest) bytes n taken more =
-    let is : all ≡ bytes ++ rest = cc in
-    omega (arith, length-append bytes rest, ap length is)
+pub names_file : (load : Load) (schema : List Column) → load_schema load ≡ Ok schema → load_takes_input load ≡ false → IsSome load.file
+names_file load schema e refused = by load.file refl
+  where
+    by : (file : Option (List ℕ)) → load.file ≡ file → IsSome file
+    by None none = let yes : load_takes_input load ≡ true = takes_input load schema e none in absurd (cc)
+    by (Some name) some = refl
 
--- an input that is too long is refused, whether or not its bytes are told
-pub too_long : (load : Load) (schema : List Column) (old new : Option (List ℕ)) (bytes : List ℕ) → load_schema load.schema ≡ Ok schema
-    → Takes old new bytes → MAX_INPUT_BYTES < length bytes
-    → IsRefused load old (Limit Input (MAX_INPUT_BYTES + 1) MAX_INPUT_BYTES)
-too_long load schema None new bytes e taken more =
-    record { input = bytes; told = tt; is = λ there. refused_length load.schema bytes there schema e more }
-too_long load schema (Some all) new bytes e taken more =
-    record {
-      input = all;
-      told = refl;
-      is = λ there. refused_length load.schema all there schema e (came_short (Some all) new bytes MAX_INPUT_BYTES taken more);
-    }
+-- ---- whether the store is
 
--- a schema text that stops a load stops it over every input
-refused_text : (load : Load) (left : Option (List ℕ)) (status : Status)
-    → ((input : List ℕ) (there : Bool) → load_result load.schema input there ≡ Err status) → IsRefused load left status
-refused_text load None status h = record { input = []; told = tt; is = h [] }
-refused_text load (Some all) status h = record { input = all; told = refl; is = h all }
+pub schema_loaded : (load : Load) (input : List ℕ) (readings : List ℕ → Reading) (table : Table) → load_table load input readings ≡ Ok table
+    → (schema : List Column) × (load_schema load ≡ Ok schema)
+schema_loaded load input readings table e = by (load_schema load) refl
+  where
+    by : (r : Result (List Column) Status) → load_schema load ≡ r → (schema : List Column) × (load_schema load ≡ Ok schema)
+    by (Ok schema) is = (schema, is)
+    by (Err why) is = let bad : load_table load input readings ≡ Err why = table_schema load input readings why is in absurd (cc)
 
-pub stops_at_schema : (load : Load) (left : Option (List ℕ)) (text : List ℕ) (stop : Stop) → text ≡ load.schema
-    → StopsAtSchema text stop → StopsReading load left stop
-stops_at_schema load left text (Refused status) same h =
-    refused_text load left status (subst (λ (t : List ℕ). (input : List ℕ) (there : Bool) → load_result t input there ≡ Err status) same h)
-stops_at_schema load left text ReadFault same h = absurd h
-stops_at_schema load left text StoreFault same h = absurd h
-stops_at_schema load left text OutOfMemory same h = tt
+schema_good : (load : Load) (input : List ℕ) (readings : List ℕ → Reading) (table : Table) → load_table load input readings ≡ Ok table
+    → is_ok (load_schema load) ≡ true
+schema_good load input readings table e = ap is_ok (schema_loaded load input readings table e).1
 
--- and so do records of an input that was taken to its end
-pub stops_at_records : (load : Load) (schema : List Column) (old new : Option (List ℕ)) (bytes : List ℕ) (stop : Stop)
-    → load_schema load.schema ≡ Ok schema → Takes old new bytes → IsAtEnd new → length bytes ≤ MAX_INPUT_BYTES
-    → StopsAtRecords (loaded bytes schema 0) stop → StopsReading load old stop
-stops_at_records load schema old new bytes (Refused status) e taken end within h =
-    record {
-      input = bytes;
-      told = all_taken old new bytes taken end;
-      is = λ there. refused_records load.schema bytes there schema status e within h;
-    }
-stops_at_records load schema old new bytes ReadFault e taken end within h = absurd h
-stops_at_records load schema old new bytes StoreFault e taken end within h = absurd h
-stops_at_records load schema old new bytes OutOfMemory e taken end within h = tt
+-- what the store gives of files doesn't matter to a load that names none
+same_table : (load : Load) (input : List ℕ) (some others : List ℕ → Reading) → load.file ≡ None
+    → load_table load input some ≡ load_table load input others
+unfolding load_table
+same_table load input some others none = simp none
 
-pub too_long_of : (load : Load) (schema : List Column) (old new : Option (List ℕ)) (limit block : ℕ) → load_schema load.schema ≡ Ok schema
-    → (limit ≡ MAX_INPUT_BYTES) × TakesSome old new (λ n. (MAX_INPUT_BYTES < n) × (n ≤ MAX_INPUT_BYTES + block))
-    → IsRefused load old (Limit Input (limit + 1) limit)
-too_long_of load schema old new limit block e h =
-    rw h.0 (too_long load schema old new h.1.came e h.1.taken h.1.count.0)
+pub asks_store : (load : Load) (input : List ℕ) (readings : List ℕ → Reading) (table : Table) → load_table load input readings ≡ Ok table
+    → load_asks_store load input ≡ true
+asks_store load input readings table e = by load.file refl
+  where
+    by : (file : Option (List ℕ)) → load.file ≡ file → load_asks_store load input ≡ true
+    by None none =
+        subst (λ (f : Option (List ℕ)). asks_by f load input ≡ true) (sym none) (ap is_ok (same_table load input (λ name. NoFile) readings none ∙ e))
+    by (Some name) some = subst (λ (f : Option (List ℕ)). asks_by f load input ≡ true) (sym some) (schema_good load input readings table e)
 
--- a schema that can be loaded is one `int` column
-first_by : (b : Bool) → if◌then◌else◌ {A = Option ℕ} b None (Some 1) ≡ None → b ≡ true
-first_by true e = refl
-first_by false e = absurd (cc)
+pub asks_file : (load : Load) (input : List ℕ) → IsSome load.file → is_ok (load_schema load) ≡ true → load_asks_store load input ≡ true
+asks_file load input named good = by load.file refl
+  where
+    by : (file : Option (List ℕ)) → load.file ≡ file → load_asks_store load input ≡ true
+    by None none = let bad : false ≡ true = sym (ap is_some none) ∙ named in absurd (cc)
+    by (Some name) some = subst (λ (f : Option (List ℕ)). asks_by f load input ≡ true) (sym some) good
 
-more_by : (b : Bool) → if◌then◌else◌ {A = Option ℕ} b (Some 2) (Some 1) ≡ None → ⊥
-more_by true e = absurd (cc)
-more_by false e = absurd (cc)
+-- ---- what an accepted load keeps
 
-pub one_int : (schema : List Column) → IsSchema schema → not_loadable schema ≡ None → IsOneInt schema
-one_int [] valid e = absurd (omega (arith, valid.some))
-one_int (column ∷ []) valid e =
-    one_int_column column (All-head (λ (c : Column). IsColumnName c.name) column [] valid.named) (first_by (is_int column.ty) e)
-one_int (column ∷ another ∷ columns) valid e = absurd (more_by (is_int column.ty) e)
+-- the table, of its text
+abbrev pub table_by : Load → Result (List ℕ) Status → Result Table Status
+table_by load text =
+    load_schema load
+    >>= (λ schema. text
+    >>= (λ bytes. records_or_refusal (loaded bytes schema load.skip)
+    >>= (λ records. Ok (record { schema = schema; records = records }))))
+
+pub table_is : (load : Load) (input : List ℕ) (readings : List ℕ → Reading)
+    → load_table load input readings ≡ table_by load (text_or_refusal load.file input readings)
+unfolding load_table
+table_is load input readings = refl
+
+-- the rows of a part are few
+few_by : (per_part : ℕ) (r : Result (List Column) Status) (schema : List Column)
+    → (r >>= (λ s. rows_or_refusal per_part s)) ≡ Ok schema → per_part ≤ most_rows
+few_by per_part (Err why) schema e = absurd (cc)
+few_by per_part (Ok other) schema e = by (nat_le per_part most_rows) refl
+  where
+    by : (b : Bool) → nat_le per_part most_rows ≡ b → per_part ≤ most_rows
+    by true is = leb-true per_part most_rows is
+    by false is =
+        let bad : rows_or_refusal per_part other ≡ Err (status.Limit limit.Rows per_part most_rows) = rw is refl in
+        let good : rows_or_refusal per_part other ≡ Ok schema = e in
+        absurd (cc)
+
+pub rows_few : (load : Load) (schema : List Column) → load_schema load ≡ Ok schema → load.per_part ≤ most_rows
+unfolding load_schema
+rows_few load schema e = few_by load.per_part (schema_or_refusal (read_schema load.schema)) schema e

@@ -1,37 +1,39 @@
 -- What a load leaves behind each of its answers.
-use Rattle.std.specs.Prelude.{◌≡◌, ◌⊎◌, ◌≤◌, ℕ, false, List, length, Option, IfSome, is_some, Result, Ok, Err}
-use Rattle.std.specs.List.{All}
-use Rattle.fb_outside.specs.Files.{Files, SameFiles, file_at}
+use Rattle.std.specs.Prelude.{◌≡◌, ◌⊎◌, ℕ, List, length, Option, None, Result, Ok, Err}
+use Rattle.fb_outside.specs.Files.{Files, SameFiles}
+use Rattle.fb_outside.specs.Puts.{PutsAll, PutsFront}
+use Rattle.fb_types.specs.Schemas.{IsSchema}
 use Rattle.fb_types.specs.Table.{Table, AllFit}
-use Rattle.part_meta.specs.FileNames.{catalog_name}
 use Rattle.command_words.specs.declared.Load.{Load}
-use Rattle.world.specs.World.{IsNumber, IsOneInt}
+use Rattle.part_meta.specs.declared.catalog.Catalog.{Catalog}
+use Rattle.dataset.specs.Appended.{append_files, refusal}
 use Rattle.statuses.specs.declared.stop.Stop.{Stop}
 use Rattle.statuses.specs.declared.stop.Stop.TheVariants.{Refused, ReadFault, StoreFault, OutOfMemory}
-use Rattle.ardea.specs.Load.{Gives}
-use Rattle.ardea.specs.Written.{Writes, WritesInPart}
+use Rattle.ardea.specs.Load.{Gives, Situation, catalog_or_refusal, load_table}
 
--- the load goes through with this table, which the one partition of a dataset can hold
-pub record GoesThrough (load : Load) (left : Option (List ℕ)) (files : Option Files) (table : Table) : Type 0 where
-  pub given : Gives load left files (Ok table)
-  pub absent : IfSome files (λ m. is_some (file_at m (catalog_name load.dir)) ≡ false)
-  pub schema : IsOneInt table.schema
+-- The load goes through with this table, into the dataset of this catalog.
+pub record GoesThrough (load : Load) (left : Option (List ℕ)) (files : Option Files) (table : Table) (catalog : Catalog) : Type 0 where
+  pub situation : Situation load left files
+  pub loaded : load_table load situation.input situation.readings ≡ Ok table
+  pub taken : catalog_or_refusal table.schema situation.found ≡ Ok catalog
+  pub accepted : refusal catalog table.schema load.per_part (length table.records) ≡ None
+  pub schema : IsSchema table.schema
   pub fit : AllFit table
-  pub few : length table.records ≤ 500000
-  pub numbers : All IsNumber table.records
 
--- `old` and `new` are the files before and after: all of a load's are written where it is done, some where it stopped
--- while it wrote, and none where it is refused or its input failed.
+-- `old` and `new` are the files before and after: all of a load's are put in order where it is done, a front of them where
+-- it stopped while it wrote, and none where it is refused or its input failed.
 pub record IsDone (load : Load) (left : Option (List ℕ)) (old new : Option Files) (count : ℕ) : Type 0 where
   pub table : Table
-  pub goes : GoesThrough load left old table
+  pub catalog : Catalog
+  pub goes : GoesThrough load left old table catalog
   pub rows : count ≡ length table.records
-  pub wrote : Writes load.dir table old new
+  pub put : PutsAll (append_files load.dir catalog load.per_part table.records) old new
 
 pub record IsCut (load : Load) (left : Option (List ℕ)) (old new : Option Files) : Type 0 where
   pub table : Table
-  pub goes : GoesThrough load left old table
-  pub wrote : WritesInPart load.dir table old new
+  pub catalog : Catalog
+  pub goes : GoesThrough load left old table catalog
+  pub put : PutsFront (append_files load.dir catalog load.per_part table.records) old new
 
 abbrev pub Ends : Load → Option (List ℕ) → Option Files → Option Files → Result ℕ Stop → Type 0
 Ends load left old new (Ok rows) = IsDone load left old new rows

@@ -1,4 +1,4 @@
 pub mod Load
-pub mod Reading
-pub mod Written
+pub mod Answers
 pub mod Done
+pub mod Order

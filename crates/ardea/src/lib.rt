@@ -1,70 +1,60 @@
-//! The command `ardea`: records of the input into a new dataset.
+//! The command `ardea`: records of the input, or of a file, into a dataset.
 #![tactic(auto)]
 
+mod adding;
+mod laws;
 mod reading;
-mod writing;
 
-ghost use Rattle.std.specs.Prelude.{◌≡◌, IfOk, IfErr, IfSome, IsErrOf, OnOk, IsUtf8, is_some};
+ghost use Rattle.std.specs.Prelude.{◌≡◌, true, false, None, IsErrOf, OnOk};
 ghost use Rattle.fb_outside.specs.Causes.{HasCause};
-ghost use Rattle.fb_outside.specs.Files.{SameFiles, file_at};
-ghost use Rattle.fb_outside.specs.Names.{IsPath};
-ghost use Rattle.fb_outside.specs.Streams.{IsAtEnd};
-ghost use Rattle.part_meta.specs.FileNames.{catalog_name};
+ghost use Rattle.fb_outside.specs.Streams.{ForSomeInput, IsAtEnd};
+ghost use Rattle.command_words.specs.Valid.{IsValidLoad};
 ghost use Rattle.ardea.specs.Done.{Ends};
-ghost use Rattle.ardea.specs.Written.{StopsWriting};
+ghost use Rattle.ardea.specs.Order.{load_asks_store, load_takes_input};
 
-use crate::reading::read_records;
-use crate::writing::write_dataset;
+use crate::adding::{add, dataset_of};
+use crate::reading::table_of;
 use command_words::Load;
-use fb_outside::{FileName, Source, Store};
-use part_meta::catalog_of;
-use statuses::{Status, Stop};
+use fb_outside::{Source, Store};
+pub use laws::the_load_in_a_world;
+use statuses::Stop;
 use std::alloc::Global;
+use std::sync::ledger::Ledger;
+use steps::Steps;
 
-/// The most bytes of input that a load reads.
-pub const MAX_INPUT_BYTES: u64 = 1_000_000;
+/// The most rows that a part may have.
+pub const MOST_ROWS: u64 = 4_194_304;
 
-/// Loads the records of the input into the dataset at the load's path, which may not have one yet, and answers
-/// how many records there are. Nothing is written unless the whole load is good; the catalog is written last.
-pub fn load<I: Source, S: Store>(
+/// The most bytes that a load takes.
+pub const MOST_INPUT_BYTES: u64 = 67_108_864;
+
+/// Loads the records of the file that the load names, else of the input, into the dataset at its path, which is made
+/// where there is none, and answers how many records there are. Nothing is written unless the whole load is good; the
+/// catalog is written last.
+pub fn load<I: Source, S: Store, L: Ledger>(
     alloc: Global,
     load: &Load,
     input: &mut I,
     store: &mut S,
+    steps: &mut Steps<L>,
 ) -> Result<u64, Stop>
-    requires path { IsPath load.now.dir }
-    requires text { IsUtf8 load.now.schema }
+    requires valid { IsValidLoad load.now }
     ensures read_cause { HasCause (I.faults input.old) (I.faults input.new) (IsErrOf result Stop.ReadFault) }
     ensures store_cause { HasCause (S.faults store.old) (S.faults store.new) (IsErrOf result Stop.StoreFault) }
-    ensures end { OnOk result (IsAtEnd (I.left input.new)) }
+    ensures end { load.now.file ≡ None → OnOk result (IsAtEnd (I.left input.new)) }
     ensures ends { Ends load.now (I.left input.old) (S.files store.old) (S.files store.new) result }
-{
-    let columns = match read_records(alloc, load, input) {
-        Ok(columns) => columns,
-        Err(stop) => return Err(stop),
-    };
-    match has_catalog(alloc, store, &load.dir) {
-        Ok(false) => {}
-        Ok(true) => return Err(Stop::Refused(Status::SchemaDiffers { column: 0 })),
-        Err(stop) => return Err(stop),
-    }
-    match write_dataset(alloc, store, &load.dir, &columns) {
-        Ok(()) => Ok(columns.rows()),
-        Err(stop) => Err(stop),
-    }
-}
 
-// Whether the path has a catalog, and so a dataset.
-fn has_catalog<S: Store>(alloc: Global, store: &mut S, dir: &FileName) -> Result<bool, Stop>
-    requires { IsPath dir.now }
-    ensures cause { HasCause (S.faults store.old) (S.faults store.new) (IsErrOf result Stop.StoreFault) }
-    ensures there { IfOk result (λ there. IfSome (S.files store.old) (λ m. is_some (file_at m (catalog_name dir.now)) ≡ there)) }
-    ensures files { SameFiles (S.files store.old) (S.files store.new) }
-    ensures stop { IfErr result StopsWriting }
+    // The input is asked for where the schema isn't refused, and the store where the records aren't; for a file that the
+    // load names the store is asked where the schema isn't refused.
+    ensures asks_input { IsErrOf result Stop.ReadFault → load_takes_input load.now ≡ true }
+    ensures asks_store { IsErrOf result Stop.StoreFault
+        → ForSomeInput (I.left input.old) (λ bytes. load_asks_store load.now bytes ≡ true) }
+    ensures untouched { load_takes_input load.now ≡ false
+        → (I.left input.new ≡ I.left input.old) × (I.faults input.new ≡ I.faults input.old) }
 {
-    let catalog = catalog_of(alloc, dir)?;
-    match store.len(catalog.as_str()) {
-        Ok(len) => Ok(len.is_some()),
-        Err(_) => Err(Stop::StoreFault),
-    }
+    let columns = table_of(alloc, load, input, store)?;
+    let mut dataset = dataset_of(alloc, &load.dir, columns.schema(), store)?;
+    let per_part = load.per_part as u32;
+    add(alloc, store, &mut dataset, &columns, per_part, steps)?;
+    Ok(columns.rows())
 }

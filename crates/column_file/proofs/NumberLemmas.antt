@@ -1,9 +1,11 @@
 -- One number and its bytes, both ways.
-use Rattle.std.proofs.Common.{◌≡◌, ◌%◌, ◌-◌, ◌^◌, ◌<◌, ◌≤ℤ◌, ℕ, ℤ, pos, false, true, IsSome, List, [], ◌∷◌, length, get_or, lit<, refl, ap, ◌∙◌, arith}
+use Rattle.std.proofs.Common.{◌≡◌, ◌%◌, ◌-◌, ◌^◌, ◌<◌, ◌≤ℤ◌, ℕ, ℤ, pos, false, true, IsSome, List, [], ◌∷◌, length, length-take, take, drop, get_or, lit<, inl, inr, ◌+◌, ◌≤◌, refl, ap, ◌∙◌, arith}
 use lib.IntN.{negsuc}
 use mir.Syntax.{Width, w8, w16, w32, w64}
 use mir.Val.{SFits, of_z, to_z, bits}
 use Rattle.std.specs.Int.{to_le_bytes, from_le_bytes}
+use Rattle.std.proofs.lemmas.Bool.{cases_lt}
+use Rattle.std.proofs.lemmas.List.{get_or-drop, get_or-take, get_or_past}
 use Rattle.std.proofs.lemmas.Int.{ints, to_z-of_z, of_z-to_z}
 use Rattle.std.proofs.lemmas.Nat.{le_bytes_2, le_bytes_4, le_bytes_8, from_le_bytes-to_le_bytes_2, from_le_bytes-to_le_bytes_4, from_le_bytes-to_le_bytes_8}
 use Rattle.fb_types.specs.Types.{signed_ends, width_of}
@@ -13,6 +15,16 @@ use Rattle.column_file.specs.Values.{ValueFits, number_bytes, number_of, width_i
 
 abbrev pub AreBytes : List ℕ → Type 0
 AreBytes bytes = (i : ℕ) → get_or bytes i 0 < 256
+
+pub AreBytes-take : (n : ℕ) (bytes : List ℕ) → AreBytes bytes → AreBytes (take n bytes)
+AreBytes-take n bytes h i =
+    elim (cases_lt i n) [
+      | inl in_front ↦ rw (get_or-take n bytes i 0 in_front) (h i)
+      | inr past ↦ rw (get_or_past (take n bytes) i 0 (rw (length-take n bytes) (omega arith))) (lit< tt)
+    ]
+
+pub AreBytes-drop : (n : ℕ) (bytes : List ℕ) → AreBytes bytes → AreBytes (drop n bytes)
+AreBytes-drop n bytes h i = rw (get_or-drop n bytes i 0) (h (n + i))
 
 abbrev IsWithin : ℤ × ℤ → ℤ → Type 0
 IsWithin ends v = (ends.0 ≤ℤ v) × (v ≤ℤ ends.1)

@@ -7,7 +7,7 @@ use Rattle.std.proofs.lemmas.Bool.{cases_lt}
 use Rattle.std.proofs.lemmas.List.Elements.{All-from_recursion, recursion_from_All}
 use Rattle.std.specs.List.{AllByRecursion, flat_map}
 use Rattle.std.specs.Simd.{first_chunks}
-use Rattle.column_file.proofs.NumberLemmas.{AreBytes, number_again, bytes_again, number_fits, length-number_bytes}
+use Rattle.column_file.proofs.NumberLemmas.{AreBytes, AreBytes-take, AreBytes-drop, number_again, bytes_again, number_fits, length-number_bytes}
 use Rattle.fb_types.specs.Types.{width_of}
 use Rattle.fb_types.specs.declared.types.ColType.{ColType}
 use Rattle.fb_types.specs.declared.types.ColType.TheVariants.{Byte, UByte, Short, UShort, Int, UInt, Long, ULong, Category, Text}
@@ -91,16 +91,6 @@ values_read ty (v ∷ vs) some h =
 
 pub values_again : (ty : ColType) (vs : List ℤ) → IsSome (width_of ty) → All (λ v. ValueFits v ty) vs → numbers_of ty (length vs) (values_bytes ty vs) ≡ vs
 values_again ty vs some h = values_read ty vs some (recursion_from_All (λ v. ValueFits v ty) vs h)
-
-AreBytes-take : (n : ℕ) (bytes : List ℕ) → AreBytes bytes → AreBytes (take n bytes)
-AreBytes-take n bytes h i =
-    elim (cases_lt i n) [
-      | inl in_front ↦ rw (get_or-take n bytes i 0 in_front) (h i)
-      | inr past ↦ rw (get_or_past (take n bytes) i 0 (rw (length-take n bytes) (omega arith))) (lit< tt)
-    ]
-
-AreBytes-drop : (n : ℕ) (bytes : List ℕ) → AreBytes bytes → AreBytes (drop n bytes)
-AreBytes-drop n bytes h i = rw (get_or-drop n bytes i 0) (h (n + i))
 
 -- bytes are written back from the numbers that they spell
 pub numbers_again : (ty : ColType) (n : ℕ) (bytes : List ℕ) → IsSome (width_of ty) → length bytes ≡ n * width_in ty → AreBytes bytes → values_bytes ty (numbers_of ty n bytes) ≡ bytes

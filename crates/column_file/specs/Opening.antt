@@ -24,16 +24,11 @@ column_in width rows None mask = Err Missing
 column_in width rows (Some values) mask =
     if length values == rows * width then mask_in rows mask else Err (WrongLength (rows * width) (length values))
 
--- What a call answered is what opening gives, unless the store failed or memory ran out. Want of memory in a mask is
--- answered as such, and never as a damaged mask.
-abbrev pub Opens : Result (List Bool) ColFault → Result (List Bool) ColFault → Type 0
-Opens (Ok bits) given = given ≡ Ok bits
-Opens (Err Store) given = Unit {0}
-Opens (Err OutOfMemory) given = Unit {0}
-Opens (Err (Mask words.OutOfMemory)) given = ⊥
-Opens (Err fault) given = given ≡ Err fault
-
--- the mask of what was opened
+-- what a fault tells of the files; want of memory and a failing store tell nothing
+abbrev pub told_by_files : ColFault → Option ColFault
+told_by_files Store = None
+told_by_files OutOfMemory = None
+told_by_files fault = Some fault
 
 -- what a call that writes may answer
 abbrev pub StopsWriting : ColFault → Type 0
@@ -46,7 +41,8 @@ abbrev pub opened_mask : Result ColumnRef ColFault → Result (List Bool) ColFau
 opened_mask (Ok column) = Ok column.mask
 opened_mask (Err fault) = Err fault
 
--- what opening a mask of so many rows may answer
+-- what opening a mask of so many rows may answer; want of memory in a mask is answered as such, and never as a damaged
+-- mask
 abbrev pub StopsMask : ℕ → ColFault → Type 0
 StopsMask rows Missing = ⊥
 StopsMask rows (WrongLength want have) = ⊥

@@ -6,7 +6,8 @@ ghost use Rattle.fb_outside.specs.Files.{SameFiles, bytes_at, file_at, told_at};
 ghost use Rattle.fb_outside.specs.Reads.{AddsOnly, AddsRead, IsWholeLook, whole_look};
 ghost use Rattle.fb_types.specs.Types.{width_of};
 ghost use Rattle.wah_words.specs.Bytes.{spelling};
-ghost use Rattle.column_file.specs.Opening.{Opens, StopsMask, StopsOpening, column_in, mask_in, opened_mask};
+ghost use Rattle.answers.specs.Answers.{Answers};
+ghost use Rattle.column_file.specs.Opening.{StopsMask, StopsOpening, column_in, mask_in, opened_mask, told_by_files};
 ghost use Rattle.column_file.specs.Rows.{ReadsRows, StopsReading, rows_in};
 ghost use Rattle.column_file.specs.Values.{ValueFits, values_bytes, width_in};
 
@@ -21,12 +22,13 @@ use wah_words::Wah;
 /// The most rows that one call reads.
 pub const MAX_ROWS_READ: usize = 4096;
 
-/// The widest number's bytes.
-const MAX_WIDTH: usize = 8;
+/// So few rows are read through a small buffer: single candidates are the common case of a selective question.
+const FEW_ROWS: usize = 16;
 
-const BUFFER: usize = 32_768;
+/// The bytes of so many rows of the widest type, which has 8.
+const FEW_BYTES: usize = 128;
 
-const _: () = prove!(BUFFER == MAX_ROWS_READ * MAX_WIDTH);
+const MOST_BYTES: usize = 32_768;
 
 /// A column whose values file has the length that its rows and its type ask for.
 #[derive(Drop)]
@@ -37,7 +39,7 @@ pub struct ColumnRef {
     pub mask: Wah,
 }
 
-/// Opens a column with so many rows: asks how long its values file is, and reads its mask file.
+/// Answers told_by_files a column with so many rows: asks how long its values file is, and reads its mask file.
 pub fn open_column<S: Store>(
     alloc: Global,
     store: &mut S,
@@ -52,7 +54,7 @@ pub fn open_column<S: Store>(
     ensures stop { IfErr result (StopsOpening (width_in ty) rows) }
 
     // The two files are those of such a column, or have a first fault.
-    ensures exact { IfSome (S.files store.old) (λ m. Opens (opened_mask result) (column_in (width_in ty) rows (file_at m name.now) (file_at m mask_name.now))) }
+    ensures exact { IfSome (S.files store.old) (λ m. Answers told_by_files (opened_mask result) (column_in (width_in ty) rows (file_at m name.now) (file_at m mask_name.now))) }
     ensures files { SameFiles (S.files store.old) (S.files store.new) }
     ensures reads { AddsOnly (IsWholeLook (S.files store.old) mask_name.now) (S.reads store.old) (S.reads store.new) }
     ensures once { OnOk result (IfSome (S.files store.old) (λ m. AddsRead (Some m) (S.reads store.old) (S.reads store.new) (whole_look m mask_name.now))) }
@@ -78,7 +80,7 @@ fn with_mask<S: Store>(
     ensures cause { HasCause (S.faults store.old) (S.faults store.new) (IsErrOf result ColFault.Store) }
     ensures opened { IfOk result (λ column. (column.name ≡ name.now) × (column.ty ≡ ty) × (column.rows ≡ rows) × (length column.mask ≡ rows)) }
     ensures stop { IfErr result (StopsMask rows) }
-    ensures exact { IfSome (S.files store.old) (λ m. Opens (opened_mask result) (mask_in rows (file_at m mask_name.now))) }
+    ensures exact { IfSome (S.files store.old) (λ m. Answers told_by_files (opened_mask result) (mask_in rows (file_at m mask_name.now))) }
     ensures files { SameFiles (S.files store.old) (S.files store.new) }
     ensures reads { AddsOnly (IsWholeLook (S.files store.old) mask_name.now) (S.reads store.old) (S.reads store.new) }
     ensures once { OnOk result (IfSome (S.files store.old) (λ m. AddsRead (Some m) (S.reads store.old) (S.reads store.new) (whole_look m mask_name.now))) }
@@ -125,8 +127,38 @@ pub fn read_rows<S: Store>(
     ensures reads { AddsRead (S.files store.old) (S.reads store.old) (S.reads store.new)
         (record { name = column.now.name; offset = first * width_in column.now.ty; room = length out.old * width_in column.now.ty }) }
 {
+    if out.len() <= FEW_ROWS {
+        read_through::<FEW_BYTES, S>(store, column, first, out)
+    } else {
+        read_through::<MOST_BYTES, S>(store, column, first, out)
+    }
+}
+
+/// The same, through a buffer of N bytes, which is cleared first: so few rows take a small one.
+fn read_through<const N: usize, S: Store>(
+    store: &mut S,
+    column: &ColumnRef,
+    first: u32,
+    out: &mut [i128],
+) -> Result<(), ColFault>
+    requires width { IsSome (width_of column.now.ty) }
+    requires rows { first + length out.old ≤ column.now.rows }
+    requires room { length out.old * 8 ≤ N }
+    requires small { N ≤ 32768 }
+    ensures cause { HasCause (S.faults store.old) (S.faults store.new) (IsErrOf result ColFault.Store) }
+    ensures stop { IfErr result (StopsReading (length out.old * width_in column.now.ty)) }
+    ensures exact { IfSome (S.files store.old) (λ m. ReadsRows result out.new (rows_in column.now.ty (length out.old)
+        (bytes_at m column.now.name (first * width_in column.now.ty) (length out.old * width_in column.now.ty)))) }
+    ensures whole { (bytes : List ℕ) → told_at (S.files store.old) column.now.name ≡ Some bytes → length bytes ≡ column.now.rows * width_in column.now.ty
+        → OnErr result (IsErrOf result ColFault.Store) }
+    ensures rows { (values : List ℤ) → told_at (S.files store.old) column.now.name ≡ Some (values_bytes column.now.ty values)
+        → All (λ value. ValueFits value column.now.ty) values → OnOk result (out.new ≡ take (length out.old) (drop first values)) }
+    ensures files { SameFiles (S.files store.old) (S.files store.new) }
+    ensures reads { AddsRead (S.files store.old) (S.reads store.old) (S.reads store.new)
+        (record { name = column.now.name; offset = first * width_in column.now.ty; room = length out.old * width_in column.now.ty }) }
+{
     let want = out.len() * number_width(column.ty);
-    let mut buffer = [0; BUFFER];
+    let mut buffer = [0; N];
     read_by(store, column, first, out, &mut buffer[..want])
 }
 

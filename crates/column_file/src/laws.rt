@@ -1,5 +1,6 @@
 //! Laws of a column's files, each on a function that does nothing.
 
+ghost use Rattle.wah_words.specs.Limits.{most_bits};
 ghost use Rattle.std.specs.Prelude.{◌≡◌, ◌+◌, ◌*◌, ◌<◌, ◌≤◌, ◌≤ℤ◌, ℕ, ℤ, Bool, List, All, Ok, Some, IsSome, drop, length, slice_index, take};
 ghost use Rattle.fb_types.specs.Types.{width_of};
 ghost use Rattle.fb_types.specs.declared.types.ColType.{ColType};
@@ -26,7 +27,7 @@ pub fn rows_of_one_width()
 
 /// The definitions of opening accept what is written: the bytes of a mask, and those of a column with it.
 pub fn written_files_open()
-    ensures mask { (bits : List Bool) → length bits ≤ 4194304 → mask_in (length bits) (Some (spelling bits)) ≡ Ok bits }
-    ensures column { (ty : ColType) (values : List ℤ) (bits : List Bool) → length bits ≤ 4194304 → length bits ≡ length values
+    ensures mask { (bits : List Bool) → length bits ≤ most_bits → mask_in (length bits) (Some (spelling bits)) ≡ Ok bits }
+    ensures column { (ty : ColType) (values : List ℤ) (bits : List Bool) → length bits ≤ most_bits → length bits ≡ length values
         → column_in (width_in ty) (length values) (Some (values_bytes ty values)) (Some (spelling bits)) ≡ Ok bits }
 {}

@@ -6,7 +6,9 @@ ghost use Rattle.fb_outside.specs.Files.{PutLeaves, Puts, SameFiles, file_at, to
 ghost use Rattle.fb_outside.specs.Reads.{AddsOnly, AddsRead, IsWholeLook, whole_look};
 ghost use Rattle.wah_words.specs.Bytes.{spelling, vector_at};
 ghost use Rattle.wah_words.specs.Spelling.{words_of};
-ghost use Rattle.column_file.specs.Opening.{Opens, StopsMask, StopsWriting, mask_in, to_its_end};
+ghost use Rattle.answers.specs.Answers.{Answers};
+ghost use Rattle.wah_words.specs.Limits.{most_bits};
+ghost use Rattle.column_file.specs.Opening.{StopsMask, StopsWriting, mask_in, to_its_end, told_by_files};
 
 use crate::fault::ColFault;
 use crate::values::put_bytes;
@@ -51,12 +53,12 @@ pub fn open_mask<S: Store>(
     ensures stop { IfErr result (StopsMask rows) }
 
     // The file is one vector of so many bits, to its end, or has a first fault.
-    ensures exact { IfSome (S.files store.old) (λ m. Opens result (mask_in rows (file_at m name.now))) }
+    ensures exact { IfSome (S.files store.old) (λ m. Answers told_by_files result (mask_in rows (file_at m name.now))) }
 
     // Without the definitions of the faults: a mask that is opened is spelled so, and what is spelled so is opened.
     ensures found { IfOk result (λ mask. IfSome (S.files store.old) (λ m. file_at m name.now ≡ Some (spelling mask))) }
-    ensures only { (bits : List Bool) → length bits ≡ rows → length bits ≤ 4194304 → told_at (S.files store.old) name.now ≡ Some (spelling bits)
-        → Opens result (Ok bits) }
+    ensures only { (bits : List Bool) → length bits ≡ rows → length bits ≤ most_bits → told_at (S.files store.old) name.now ≡ Some (spelling bits)
+        → Answers told_by_files result (Ok bits) }
     ensures files { SameFiles (S.files store.old) (S.files store.new) }
     ensures reads { AddsOnly (IsWholeLook (S.files store.old) name.now) (S.reads store.old) (S.reads store.new) }
     ensures once { OnOk result (IfSome (S.files store.old) (λ m. AddsRead (Some m) (S.reads store.old) (S.reads store.new) (whole_look m name.now))) }
@@ -71,7 +73,7 @@ pub fn open_mask<S: Store>(
 
 /// The mask that the bytes of a whole file spell.
 fn mask_of(alloc: Global, bytes: &[u8], rows: u32) -> Result<Wah, ColFault>
-    ensures exact { Opens result (to_its_end rows (length bytes.now) (vector_at bytes.now)) }
+    ensures exact { Answers told_by_files result (to_its_end rows (length bytes.now) (vector_at bytes.now)) }
     ensures found { IfOk result (λ mask. bytes.now ≡ spelling mask) }
     ensures rows { IfOk result (λ mask. length mask ≡ rows) }
     ensures stop { IfErr result (StopsMask rows) }

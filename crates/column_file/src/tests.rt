@@ -9,9 +9,9 @@ use fb_types::ColType;
 use std::alloc::Global;
 use std::marker::Brand;
 use std::process::Abort;
-use std::sync::ledger::{Blank, Ledger};
+use std::sync::ledger::Ledger;
 use std::test::Fail;
-use steps::Steps;
+use steps::{Blank, Count, Steps};
 use wah_words::{Wah, WordsFault};
 
 const VALUES: &str = "D/p0000/a";
@@ -162,7 +162,7 @@ fn a_mask_is_its_vector(rt: HostRuntime) -> Result<(), Fail> {
     let mut store = memory(&rt, &[]);
     let mask = vector(&rt, FEW);
     let name = named(&rt, MASK);
-    match put_mask::<Brand>(Blank::new(1), rt.alloc(), &mut store, &name, &mask) {
+    match put_mask::<Brand>(rt.blank(), rt.alloc(), &mut store, &name, &mask) {
         Ok(()) => (),
         Err(_) => rt.panic("not written"),
     }

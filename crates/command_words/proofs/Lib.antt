@@ -1,1 +1,5 @@
+pub mod AheadLemmas
+pub mod NumberLemmas
 pub mod PathLemmas
+pub mod PlaceLemmas
+pub mod WordsLemmas

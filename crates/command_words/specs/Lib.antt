@@ -1,2 +1,5 @@
+pub mod Places
 pub mod Words
 pub mod Valid
+pub mod Lines
+pub mod Ahead

@@ -24,10 +24,15 @@ three_records : loaded (codes "1\n2\n3\n") int_column 0
 unfolding csv_on_literals loaded all_or_first record_cells field_cells field_cell
 three_records = refl
 
--- a blank field is no number as yet
-blank_field : loaded (codes "1\n\"\"\n") int_column 0 ≡ Err (record { number = 2; field = 1; kind = NotWhole })
+-- a blank field is a null
+blank_field : loaded (codes "1\n\"\"\n") int_column 0 ≡ Ok ((cell.Whole (pos 1) ∷ []) ∷ (cell.Null ∷ []) ∷ [])
 unfolding csv_on_literals loaded all_or_first record_cells field_cells field_cell
 blank_field = refl
+
+-- a word is no number
+no_number : loaded (codes "1\nx\n") int_column 0 ≡ Err (record { number = 2; field = 1; kind = NotWhole })
+unfolding csv_on_literals loaded all_or_first record_cells field_cells field_cell
+no_number = refl
 
 -- the second record has a field too many
 second_too_long : loaded (codes "1\n1,2\n") int_column 0 ≡ Err (record { number = 2; field = 2; kind = FieldCount })

@@ -4,6 +4,10 @@ use Rattle.fb_outside.specs.Streams.{Takes}
 use Rattle.csv_load.specs.declared.input.InputFault.{InputFault}
 use Rattle.csv_load.specs.declared.input.InputFault.TheVariants.{ReadFault, TooLong, OutOfMemory}
 
+-- how many bytes at most are asked of a source at a time
+abbrev pub block_bytes : ℕ
+block_bytes = 65536
+
 -- some bytes were taken, and this holds of their number
 pub record TakesSome (old new : Option (List ℕ)) (P : ℕ → Type 0) : Type 0 where
   pub came : List ℕ

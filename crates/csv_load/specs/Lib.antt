@@ -1,4 +1,5 @@
 pub mod Input
+pub mod File
 pub mod Loaded
 pub mod Answers
 pub mod Law

@@ -19,9 +19,9 @@ use Rattle.csv_load.specs.declared.fields.RecordKind.TheVariants.{FieldCount, No
 abbrev pub text_records : List ℕ → List (List (List ℕ))
 text_records bytes = records default_config (strip_bom bytes)
 
--- the cell of a field of a whole column; as yet a blank field is no number
+-- the cell of a field of a whole column: null where it is blank
 abbrev pub whole_cell : FieldAnswer → Result Cell RecordKind
-whole_cell says.Null = Err NotWhole
+whole_cell says.Null = Ok cell.Null
 whole_cell (says.Value number) = Ok (cell.Whole number)
 whole_cell says.NotWhole = Err NotWhole
 whole_cell says.OutOfRange = Err OutOfRange

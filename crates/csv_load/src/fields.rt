@@ -15,7 +15,7 @@ use std::alloc::{AllocError, AllocFailed, Global};
 pub enum RecordKind {
     /// There are fewer fields than columns, or more.
     FieldCount,
-    /// The field of a whole column is no number.
+    /// The field of a whole column is neither blank nor a number.
     NotWhole,
     /// The number is outside the column's type.
     OutOfRange,
@@ -85,9 +85,10 @@ fn cell_of(alloc: Global, ty: ColType, bytes: &[u8], number: u32) -> Result<Cell
         return word_of(alloc, bytes, number);
     }
     let kind = match parse_whole(bytes, ty) {
+        FieldAnswer::Null => return Ok(Cell::Null),
         FieldAnswer::Value(number) => return Ok(Cell::Whole(number)),
         FieldAnswer::OutOfRange => RecordKind::OutOfRange,
-        FieldAnswer::NotWhole | FieldAnswer::Null => RecordKind::NotWhole,
+        FieldAnswer::NotWhole => RecordKind::NotWhole,
     };
     Err(FieldFault::Bad {
         field: number,

@@ -1,7 +1,7 @@
 ghost use Rattle.std.specs.Prelude.{◌≡◌, ◌<◌, ◌≤◌, IfOk, IfErr, OnOk, IsErrOf, length, vec_len};
 ghost use Rattle.fb_outside.specs.Causes.{HasCause};
 ghost use Rattle.fb_outside.specs.Streams.{IsAtEnd, Takes};
-ghost use Rattle.csv_load.specs.Input.{Explains};
+ghost use Rattle.csv_load.specs.Input.{Explains, block_bytes};
 
 use fb_outside::Source;
 use std::alloc::{AllocError, Global};
@@ -32,7 +32,7 @@ pub fn read_input<I: Source>(
     ensures taken { IfOk result (λ bytes. Takes (I.left input.old) (I.left input.new) bytes.items) }
     ensures end { OnOk result (IsAtEnd (I.left input.new)) }
     ensures within { IfOk result (λ bytes. length bytes.items ≤ limit) }
-    ensures fault { IfErr result (Explains limit BLOCK (I.left input.old) (I.left input.new)) }
+    ensures fault { IfErr result (Explains limit block_bytes (I.left input.old) (I.left input.new)) }
 {
     let Ok(mut block) = zeros(alloc, BLOCK) else {
         return Err(InputFault::OutOfMemory);

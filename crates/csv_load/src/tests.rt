@@ -1,9 +1,10 @@
 ghost use Rattle.std.specs.Prelude.{◌<◌, length};
 
-use crate::{InputFault, RecordFault, RecordKind, read_input, records};
-use fb_outside::MemSource;
+use crate::{FileFault, InputFault, RecordFault, RecordKind, read_file, read_input, records};
+use fb_outside::{FailAt, Failed, FileName, MemSource, MemStore, Store, Trouble};
 use fb_types::{Columns, parse_schema};
 use std::alloc::{AllocError, Global};
+use std::process::Abort;
 use std::test::Fail;
 
 fn bytes_of(alloc: Global, count: usize) -> Result<Vec<u8>, AllocError> {
@@ -120,6 +121,16 @@ fn loads_records(rt: HostRuntime) -> Result<(), Fail> {
 }
 
 #[test]
+fn blank_fields_are_null(rt: HostRuntime) -> Result<(), Fail> {
+    let alloc = rt.alloc();
+    let schema = parse_schema(alloc, "a:int")?;
+    let columns = records(alloc, b"\"\"\n1\n \t\n", &schema, 0)?;
+    assert_eq!(rt; columns.rows(), 3);
+    assert_eq!(rt; numbers_of(alloc, &columns)?.as_slice(), [1].as_slice());
+    Ok(())
+}
+
+#[test]
 fn names_the_first_fault(rt: HostRuntime) -> Result<(), Fail> {
     let alloc = rt.alloc();
     let schema = parse_schema(alloc, "a:int")?;
@@ -127,8 +138,7 @@ fn names_the_first_fault(rt: HostRuntime) -> Result<(), Fail> {
         ("1\n1,2\n", 0, 2, 2, RecordKind::FieldCount),
         ("1,\n", 0, 1, 2, RecordKind::FieldCount),
         ("x,y,z\n", 0, 1, 2, RecordKind::FieldCount),
-        ("1\n\"\"\n", 0, 2, 1, RecordKind::NotWhole),
-        ("1\n \n2\n", 0, 2, 1, RecordKind::NotWhole),
+        ("1\n \nx\n", 0, 3, 1, RecordKind::NotWhole),
         ("x\n1,2\n", 0, 1, 1, RecordKind::NotWhole),
         ("1,2\nx\n", 0, 1, 2, RecordKind::FieldCount),
         ("1.0\n", 0, 1, 1, RecordKind::NotWhole),
@@ -155,4 +165,84 @@ fn fault_of(answer: &Result<Columns, RecordFault>) -> Option<(u64, u32, RecordKi
         ) => Some((*number, *field, *kind)),
         _ => None,
     }
+}
+
+fn named<R: Abort + AllocGlobal>(rt: &R, text: &str) -> FileName {
+    match FileName::from_str(rt.alloc(), text) {
+        Ok(Some(name)) => name,
+        _ => rt.panic("no name"),
+    }
+}
+
+fn is_fault(answer: &Result<Vec<u8>, FileFault>, fault: &str) -> bool {
+    match answer {
+        Ok(bytes) => fault == "" && bytes.as_slice() == b"abc".as_slice(),
+        Err(FileFault::Missing) => fault == "missing",
+        Err(FileFault::Store) => fault == "store",
+        Err(FileFault::TooLong { have, limit }) => fault == "long" && *have == 3 && *limit < 3,
+        Err(FileFault::Short) => fault == "short",
+        Err(FileFault::OutOfMemory) => false,
+    }
+}
+
+#[test]
+fn reads_a_file(rt: HostRuntime) -> Result<(), Fail> {
+    let alloc = rt.alloc();
+    // The call that fails, from 0: the file is put, its length asked, its bytes read.
+    for (name, limit, fails, fault) in [
+        ("n.csv", 3, 9, ""),
+        ("n.csv", 4, 9, ""),
+        ("n.csv", 2, 9, "long"),
+        ("n.csv", 0, 9, "long"),
+        ("m.csv", 9, 9, "missing"),
+        ("n.csv", 3, 1, "store"),
+        ("n.csv", 3, 2, "store"),
+        ("n.csv", 2, 2, "long"),
+        ("m.csv", 3, 2, "missing"),
+    ] {
+        let fails = [FailAt {
+            call: fails,
+            keep_new: false,
+        }];
+        let mut store = MemStore::make(alloc, &fails, 1)?;
+        let there = named(&rt, "n.csv");
+        assert!(rt; store.put(there.as_str(), b"abc").is_ok());
+        let answer = read_file(alloc, &mut store, &named(&rt, name), limit);
+        assert!(rt; is_fault(&answer, fault), "{name} up to {limit}: {fault}");
+    }
+    Ok(())
+}
+
+/// A store that tells a length and gives no byte.
+struct Empty;
+
+impl Store for Empty {
+    ghost use Rattle.std.specs.Prelude.{None};
+
+    ghost faults = { λ _. 0 };
+
+    ghost files = { λ _. None };
+
+    ghost reads = { λ _. None };
+
+    fn len(&mut self, _name: &str) -> Result<Option<u64>, Failed> {
+        Ok(Some(3))
+    }
+
+    fn read_at(&mut self, _name: &str, _at: u64, _buf: &mut [u8]) -> Result<usize, Failed> {
+        Ok(0)
+    }
+
+    fn put(&mut self, _name: &str, _bytes: &[u8]) -> Result<(), Trouble> {
+        Err(Trouble::OutOfMemory)
+    }
+}
+
+#[test]
+fn tells_a_short_file(rt: HostRuntime) -> Result<(), Fail> {
+    let mut store = Empty;
+    let answer = read_file(rt.alloc(), &mut store, &named(&rt, "n.csv"), 3);
+    assert!(rt; is_fault(&answer, "short"));
+    let Empty = store;
+    Ok(())
 }

@@ -4,23 +4,24 @@
 
 ghost use Rattle.std.specs.Prelude.{◌≡◌, ◌<◌};
 
-use fastbit_tool::run;
+use fastbit_tool::{Status, run};
 use fb_outside::{FolderStore, StdSink, StdSource};
 use std::alloc::AllocError;
 use std::marker::Brand;
 use std::process::ExitCode;
-use std::sync::ledger::{Blank, Ledger};
+use std::sync::ledger::Ledger;
 use std::{env, io};
-use steps::Steps;
+use steps::{Blank, Count, Steps};
 
 /// The code with which the program ends where the system doesn't give it its words. It is the code of no status.
 const NO_WORDS: u8 = 14;
 
 fn main(rt: HostRuntime) -> ExitCode {
     match words_of(&rt) {
-        Ok(words) => ExitCode::from(command::<Brand>(&rt, &words, Blank::new(1)).unwrap_or(
-            NO_WORDS,
-        )),
+        Ok(words) => match command::<Brand>(&rt, &words, rt.blank()) {
+            Ok(status) => ExitCode::from(status.code()),
+            Err(_) => ExitCode::from(Status::OutOfMemory.code()),
+        },
         Err(_) => ExitCode::from(NO_WORDS),
     }
 }
@@ -34,7 +35,11 @@ fn words_of(rt: &HostRuntime) -> io::Result<Vec<String>> {
     Ok(words)
 }
 
-fn command<L: Ledger>(rt: &HostRuntime, words: &[String], blank: Blank) -> Result<u8, AllocError>
+fn command<L: Ledger>(
+    rt: &HostRuntime,
+    words: &[String],
+    blank: Blank,
+) -> Result<Status, AllocError>
     requires ledger { blank.name ≡ L.name }
     requires parts { blank.parts ≡ L.parts }
     requires some { 0 < blank.parts }
@@ -43,13 +48,12 @@ fn command<L: Ledger>(rt: &HostRuntime, words: &[String], blank: Blank) -> Resul
     let mut store = FolderStore::make(rt.clone()?, rt.alloc());
     let mut out = StdSink::make(io::writer(rt));
     let mut steps = Steps::<L>::new(blank);
-    let status = run(
+    Ok(run(
         rt.alloc(),
         words,
         &mut input,
         &mut store,
         &mut out,
         &mut steps,
-    );
-    Ok(status.code())
+    ))
 }

@@ -1,4 +1,1 @@
-pub mod Refusals
-pub mod PrintLemmas
-pub mod RunLemmas
-pub mod CountLemmas
+pub mod CompleteLemmas

@@ -1,5 +1,1 @@
-pub mod Reply
-pub mod Loading
-pub mod Effects
-pub mod Causes
-pub mod Counting
+pub mod Completes

@@ -3,12 +3,12 @@
 ghost use Rattle.std.specs.Prelude.{◌≡◌, ◌<◌};
 
 use super::*;
-use fb_outside::{FailAt, MemSink, MemSource, MemStore};
+use fb_outside::{FailAt, FileName, MemSink, MemSource, MemStore};
 use std::alloc::AllocError;
 use std::marker::Brand;
 use std::process::Abort;
-use std::sync::ledger::Blank;
 use std::test::Fail;
+use steps::{Blank, Count};
 
 /// Runs a command, and answers its status's number.
 fn answer<L: Ledger>(
@@ -34,7 +34,7 @@ fn answer<L: Ledger>(
 /// What is run, and what its status's number and its printed text must be.
 #[derive(Drop)]
 struct Case<'a> {
-    words: [&'static str; 5],
+    words: &'static [&'static str],
     input: &'a [u8],
     source_fails: &'static [u64],
     sink_fails: &'static [u64],
@@ -42,7 +42,7 @@ struct Case<'a> {
     printed: &'static str,
 }
 
-fn expect<R: Abort + AllocGlobal>(
+fn expect<R: Abort + AllocGlobal + Count>(
     rt: &R,
     store: &mut MemStore,
     case: &Case,
@@ -50,14 +50,7 @@ fn expect<R: Abort + AllocGlobal>(
     let mut source = MemSource::make(rt.alloc(), case.input, 1 << 16, case.source_fails)?;
     let mut out = MemSink::make(rt.alloc(), case.sink_fails)?;
     let words = case.words;
-    let code = answer::<Brand>(
-        rt.alloc(),
-        Blank::new(1),
-        &words,
-        &mut source,
-        store,
-        &mut out,
-    )?;
+    let code = answer::<Brand>(rt.alloc(), rt.blank(), words, &mut source, store, &mut out)?;
     assert!(rt; code == case.code, "{}", case.printed);
     assert!(rt;
         out.written() == case.printed.as_bytes(),
@@ -69,7 +62,7 @@ fn expect<R: Abort + AllocGlobal>(
 
 /// A case in which nothing fails.
 fn make_case<'a>(
-    words: [&'static str; 5],
+    words: &'static [&'static str],
     input: &'a [u8],
     code: u8,
     printed: &'static str,
@@ -84,6 +77,33 @@ fn make_case<'a>(
     }
 }
 
+/// Runs a load.
+fn expect_load<R: Abort + AllocGlobal + Count>(
+    rt: &R,
+    store: &mut MemStore,
+    words: &'static [&'static str],
+    input: &str,
+    code: u8,
+    printed: &'static str,
+) -> Result<(), AllocError> {
+    expect(
+        rt,
+        store,
+        &make_case(words, input.as_bytes(), code, printed),
+    )
+}
+
+/// Runs a command that takes no input.
+fn expect_asked<R: Abort + AllocGlobal + Count>(
+    rt: &R,
+    store: &mut MemStore,
+    words: &'static [&'static str],
+    code: u8,
+    printed: &'static str,
+) -> Result<(), AllocError> {
+    expect(rt, store, &make_case(words, b"", code, printed))
+}
+
 /// The file of this name has these bytes.
 fn expect_file<R: Abort>(rt: &R, store: &MemStore, name: &str, bytes: &[u8]) {
     match store.file(name) {
@@ -92,150 +112,8 @@ fn expect_file<R: Abort>(rt: &R, store: &MemStore, name: &str, bytes: &[u8]) {
     }
 }
 
-const LOAD_T: [&str; 5] = ["ardea", "-d", "t", "-m", "a:int"];
-
-const LOAD_U: [&str; 5] = ["ardea", "-d", "u", "-m", "a:int"];
-
-const CATALOG: &[u8] = b"fastbit catalog 1\nschema a:int\nnext 1\npart 0\n";
-
-const DIFFERS: &str = "error 4 schema differs at column 0\n";
-
-#[test]
-fn loads_once(rt: HostRuntime) -> Result<(), Fail> {
-    let mut store = MemStore::make(rt.alloc(), &[], 0)?;
-    expect(
-        &rt,
-        &mut store,
-        &make_case(LOAD_T, b"1\n2\n3\n", 0, "loaded 3 rows\n"),
-    )?;
-    expect(&rt, &mut store, &make_case(LOAD_T, b"4\n", 4, DIFFERS))?;
-    expect_file(&rt, &store, "t/-catalog.txt", CATALOG);
-    expect_file(
-        &rt,
-        &store,
-        "t/p0000/a",
-        b"\x01\x00\x00\x00\x02\x00\x00\x00\x03\x00\x00\x00",
-    );
-    expect(
-        &rt,
-        &mut store,
-        &make_case(
-            ["ardea", "-d", "/d/e", "-m", "A:int"],
-            b"",
-            0,
-            "loaded 0 rows\n",
-        ),
-    )?;
-    expect_file(
-        &rt,
-        &store,
-        "/d/e/-catalog.txt",
-        b"fastbit catalog 1\nschema a:int\nnext 0\n",
-    );
-    expect(
-        &rt,
-        &mut store,
-        &make_case(
-            LOAD_U,
-            b" -2147483648\t\r\n\n+2147483647",
-            0,
-            "loaded 2 rows\n",
-        ),
-    )?;
-    expect_file(
-        &rt,
-        &store,
-        "u/p0000/a",
-        b"\x00\x00\x00\x80\xff\xff\xff\x7f",
-    );
-    assert!(rt; store.name(5).is_none(), "no other file is written");
-    Ok(())
-}
-
-#[test]
-fn refuses_records(rt: HostRuntime) -> Result<(), Fail> {
-    let mut store = MemStore::make(rt.alloc(), &[], 0)?;
-    for (input, code, printed) in [
-        ("1\n\"\"\n", 3, "error 3 record 2 field 1 NotWhole\n"),
-        ("1\n1,2\n", 3, "error 3 record 2 field 2 FieldCount\n"),
-        ("1\nx\n1,2\n", 3, "error 3 record 2 field 1 NotWhole\n"),
-        ("2147483648\n", 3, "error 3 record 1 field 1 OutOfRange\n"),
-    ] {
-        expect(
-            &rt,
-            &mut store,
-            &make_case(LOAD_U, input.as_bytes(), code, printed),
-        )?;
-    }
-    assert!(rt; store.name(0).is_none(), "a refused load writes nothing");
-    Ok(())
-}
-
-#[test]
-fn refuses_words_and_schemas(rt: HostRuntime) -> Result<(), Fail> {
-    let mut store = MemStore::make(rt.alloc(), &[], 0)?;
-    for (words, input, code, printed) in [
-        (
-            ["ardea", "-d", "u", "-m", "a:byte"],
-            "",
-            2,
-            "error 2 schema at column 1 BadType\n",
-        ),
-        (
-            ["ardea", "-d", "u", "-m", "by:int"],
-            "",
-            2,
-            "error 2 schema at column 1 BadName\n",
-        ),
-        (
-            ["ardea", "-d", "u", "-m", " "],
-            "",
-            2,
-            "error 2 schema at column 0 Empty\n",
-        ),
-        (
-            ["ardea", "-d", "u", "-m", "a:int,b:int"],
-            "x\n",
-            2,
-            "error 2 schema at column 2 BadType\n",
-        ),
-        (
-            ["ardea", "-d", "u", "-m", "a:int,A:int"],
-            "x\n",
-            2,
-            "error 2 schema at column 2 Repeated\n",
-        ),
-        (
-            ["ardea", "-d", "u/", "-m", "a:int"],
-            "1\n",
-            1,
-            "error 1 usage\n",
-        ),
-        (
-            ["ardea", "-m", "a:int", "-d", "u"],
-            "1\n",
-            1,
-            "error 1 usage\n",
-        ),
-        (
-            ["ardea", "-d", "-u", "-m", "a:int"],
-            "1\n",
-            1,
-            "error 1 usage\n",
-        ),
-    ] {
-        expect(
-            &rt,
-            &mut store,
-            &make_case(words, input.as_bytes(), code, printed),
-        )?;
-    }
-    assert!(rt; store.name(0).is_none(), "a refused load writes nothing");
-    Ok(())
-}
-
 /// Puts a file.
-fn keep<R: Abort + AllocGlobal>(
+fn keep<R: Abort + AllocGlobal + Count>(
     rt: &R,
     store: &mut MemStore,
     name: &str,
@@ -248,194 +126,218 @@ fn keep<R: Abort + AllocGlobal>(
     Ok(())
 }
 
-/// Asks a dataset in a store for a count.
-fn expect_asked<R: Abort + AllocGlobal>(
-    rt: &R,
-    store: &mut MemStore,
-    dir: &'static str,
-    query: &'static str,
-    code: u8,
-    printed: &'static str,
-) -> Result<(), AllocError> {
-    expect(
-        rt,
-        store,
-        &make_case(["ibis", "-d", dir, "-q", query], b"", code, printed),
-    )
+const LOAD: &[&str] = &["ardea", "-d", "D", "-m", "a:int"];
+
+const LOAD_TWO: &[&str] = &["ardea", "-d", "V", "-m", "a:int,b:short"];
+
+const LOAD_BYTES: &[&str] = &["ardea", "-d", "B", "-m", "a:byte"];
+
+const LOAD_PARTS: &[&str] = &["ardea", "-p", "2", "-m", "a:int", "-d", "P"];
+
+const LOAD_LONG: &[&str] = &["ardea", "-d", "D", "-m", "a:long"];
+
+const SKIP: &[&str] = &["ardea", "-d", "S", "-m", "a:int", "-s", "1"];
+
+const WORDS: &[&str] = &["ardea", "-d", "W", "-m", "a:int, b:category"];
+
+const WEB_LOG: &[&str] = &[
+    "ardea",
+    "-d",
+    "L",
+    "-m",
+    "host:category, code:short, bytes:long, path:text",
+    "-s",
+    "1",
+];
+
+const LOG: &str =
+    "host,code,bytes,path\nalpha,200,512,/index.html\nbeta,404,,/missing\nalpha,200,20480,\"/a,b.html\"\ngamma,500,17,/index.html\n";
+
+#[test]
+fn loads_of_all_types(rt: HostRuntime) -> Result<(), Fail> {
+    let mut store = MemStore::make(rt.alloc(), &[], 0)?;
+    expect_load(&rt, &mut store, LOAD, "1\n", 0, "loaded 1 rows\n")?;
+    let differs = "error 4 schema differs at column 1\n";
+    expect_load(&rt, &mut store, LOAD_LONG, "2\n", 4, differs)?;
+    expect_load(&rt, &mut store, LOAD, "5\n7\n", 0, "loaded 2 rows\n")?;
+    expect_load(&rt, &mut store, LOAD_TWO, "1,\n", 0, "loaded 1 rows\n")?;
+    expect_load(&rt, &mut store, SKIP, "x\n4\n", 0, "loaded 1 rows\n")?;
+    let range = "error 3 record 1 field 1 OutOfRange\n";
+    expect_load(&rt, &mut store, LOAD_BYTES, "128\n", 3, range)?;
+    expect_load(&rt, &mut store, LOAD_BYTES, "-128\n", 0, "loaded 1 rows\n")?;
+    let words = "1,x\n,\n 2 ,\"a,b\"\n";
+    expect_load(&rt, &mut store, WORDS, words, 0, "loaded 3 rows\n")?;
+    expect_load(&rt, &mut store, WEB_LOG, LOG, 0, "loaded 4 rows\n")?;
+    expect_file(
+        &rt,
+        &store,
+        "D/-catalog.txt",
+        b"fastbit catalog 1\nschema a:int\nnext 2\npart 0\npart 1\n",
+    );
+    expect_file(&rt, &store, "D/p0001/a", b"\x05\0\0\0\x07\0\0\0");
+    expect_file(&rt, &store, "V/p0000/b", b"\0\0");
+    expect_file(&rt, &store, "V/p0000/b.msk", b"\x01\0\0\0\0\0\0\0\0\0\0\0");
+    expect_file(&rt, &store, "W/p0000/b", b"\x01\0\0\0\0\0\0\0\x02\0\0\0");
+    expect_file(&rt, &store, "W/p0000/b.dic", b"\x02\0\0\0\x01\0x\x03\0a,b");
+    let paths = b"/index.html/missing/a,b.html/index.html".as_slice();
+    expect_file(&rt, &store, "L/p0000/path", paths);
+    Ok(())
 }
 
 #[test]
-fn counts_by_one_comparison(rt: HostRuntime) -> Result<(), Fail> {
+fn loads_cut_into_parts(rt: HostRuntime) -> Result<(), Fail> {
     let mut store = MemStore::make(rt.alloc(), &[], 0)?;
-    expect(
-        &rt,
-        &mut store,
-        &make_case(LOAD_T, b"1\n2\n3\n", 0, "loaded 3 rows\n"),
-    )?;
-    expect(
-        &rt,
-        &mut store,
-        &make_case(
-            ["ardea", "-d", "v", "-m", " B : int "],
-            b"",
-            0,
-            "loaded 0 rows\n",
-        ),
-    )?;
-    for (dir, query, code, printed) in [
-        ("t", "where A < 3", 0, "hits 2\n"),
-        ("t", "WHERE\na<+1", 0, "hits 0\n"),
-        ("t", "where a < -2147483649", 0, "hits 0\n"),
-        ("t", "where a<99999999999", 0, "hits 3\n"),
-        ("v", "where b < 7", 0, "hits 0\n"),
-        ("t", "where a <", 6, "error 6 query Syntax\n"),
-        ("t", "a < 3", 6, "error 6 query Syntax\n"),
-        ("E", "", 6, "error 6 query Syntax\n"),
-        (
-            "E",
-            "where a < 170141183460469231731687303715884105728",
-            6,
-            "error 6 query Literal\n",
-        ),
-        ("t", "where z < 3", 6, "error 6 query Unknown z\n"),
-        ("v", "where a < 3", 6, "error 6 query Unknown a\n"),
-        ("E", "where a < 3", 7, "error 7 missing E/-catalog.txt\n"),
-        ("t/", "where a < 3", 1, "error 1 usage\n"),
-    ] {
-        expect_asked(&rt, &mut store, dir, query, code, printed)?;
+    let five = "1\n2\n3\n4\n5\n";
+    expect_load(&rt, &mut store, LOAD_PARTS, five, 0, "loaded 5 rows\n")?;
+    expect_file(&rt, &store, "P/p0000/a", b"\x01\0\0\0\x02\0\0\0");
+    expect_file(&rt, &store, "P/p0001/a", b"\x03\0\0\0\x04\0\0\0");
+    expect_file(&rt, &store, "P/p0002/a", b"\x05\0\0\0");
+    let list = "schema a:int\npart 0 rows 2\npart 1 rows 2\npart 2 rows 1\n";
+    expect_asked(&rt, &mut store, &["ibis", "-l", "-d", "P"], 0, list)?;
+    let below = &["ibis", "-d", "P", "-q", "where A < 4"];
+    expect_asked(&rt, &mut store, below, 0, "hits 3\n")?;
+    let rows = &["ardea", "-d", "P", "-m", "a:int", "-p", "4194305"];
+    let many = "error 9 limit rows 4194305 over 4194304\n";
+    expect_load(&rt, &mut store, rows, "x\n", 9, many)?;
+    Ok(())
+}
+
+#[test]
+fn a_load_makes_at_most_1024_parts(rt: HostRuntime) -> Result<(), Fail> {
+    let mut store = MemStore::make(rt.alloc(), &[], 0)?;
+    let mut lines = Vec::new(rt.alloc());
+    for _ in 0..1025 {
+        lines.extend_from_slice(b"1\n")?;
     }
+    let parts = "error 9 limit parts 1025 over 1024\n";
+    let words = &["ardea", "-d", "x", "-m", "a:int", "-p", "1"];
+    expect(&rt, &mut store, &make_case(words, &lines, 9, parts))?;
+    assert!(rt; store.name(0).is_none(), "a refused load writes nothing");
+    Ok(())
+}
+
+#[test]
+fn loads_of_a_file(rt: HostRuntime) -> Result<(), Fail> {
+    let mut store = MemStore::make(rt.alloc(), &[], 0)?;
+    keep(&rt, &mut store, "n.csv", b"3\n\"\"\n5\n")?;
+    let load = &["ardea", "-d", "D", "-m", "a:int", "-t", "n.csv"];
+    expect_load(&rt, &mut store, load, "x", 0, "loaded 3 rows\n")?;
+    let below = &["ibis", "-d", "D", "-q", "where a < 5"];
+    expect_asked(&rt, &mut store, below, 0, "hits 1\n")?;
+    let absent = &["ardea", "-d", "D", "-m", "a:int", "-t", "m.csv"];
+    expect_load(&rt, &mut store, absent, "", 7, "error 7 missing m.csv\n")?;
+    expect_file(&rt, &store, "n.csv", b"3\n\"\"\n5\n");
+    Ok(())
+}
+
+#[test]
+fn refuses_words_schemas_and_queries(rt: HostRuntime) -> Result<(), Fail> {
+    let mut store = MemStore::make(rt.alloc(), &[], 0)?;
+    expect_load(&rt, &mut store, LOAD, "", 0, "loaded 0 rows\n")?;
+    expect_load(&rt, &mut store, WORDS, "", 0, "loaded 0 rows\n")?;
+    let usage = "error 1 usage\n";
+    let syntax = "error 6 query Syntax\n";
+    for (words, code, printed) in [
+        (["ibis", "-d", "D", "-q", "where a < 5"], 0, "hits 0\n"),
+        (["ibis", "-d", "D", "-q", "where a <"], 6, syntax),
+        (["ibis", "-d", "E", "-q", "a < 3"], 6, syntax),
+        (
+            ["ibis", "-d", "D", "-q", "where z < 1"],
+            6,
+            "error 6 query Unknown z\n",
+        ),
+        (
+            ["ibis", "-d", "W", "-q", "where b < 1"],
+            6,
+            "error 6 query WrongType b\n",
+        ),
+        (
+            ["ibis", "-d", "E", "-q", "where a < 3"],
+            7,
+            "error 7 missing E/-catalog.txt\n",
+        ),
+        (["ibis", "-d", "D", "-e", "where a < 5"], 1, usage),
+        (["ibis", "-d", "D", "-d", "D"], 1, usage),
+        (["ardea", "-d", "u/", "-m", "a:int"], 1, usage),
+        (
+            ["ardea", "-d", "u", "-m", "a:real"],
+            2,
+            "error 2 schema at column 1 BadType\n",
+        ),
+    ] {
+        expect_five(&rt, &mut store, words, code, printed)?;
+    }
+    Ok(())
+}
+
+/// Runs a command of five words.
+fn expect_five<R: Abort + AllocGlobal + Count>(
+    rt: &R,
+    store: &mut MemStore,
+    words: [&'static str; 5],
+    code: u8,
+    printed: &'static str,
+) -> Result<(), AllocError> {
+    let mut source = MemSource::make(rt.alloc(), b"", 1, &[])?;
+    let mut out = MemSink::make(rt.alloc(), &[])?;
+    let done = answer::<Brand>(rt.alloc(), rt.blank(), &words, &mut source, store, &mut out)?;
+    assert!(rt; done == code, "{}", printed);
+    assert!(rt; out.written() == printed.as_bytes(), "{}", printed);
     Ok(())
 }
 
 #[test]
 fn names_each_damaged_file(rt: HostRuntime) -> Result<(), Fail> {
-    let text = "error 8 damaged t/-catalog.txt Text\n";
-    let length = "error 8 damaged t/p0000/a Length\n";
-    let catalog = "t/-catalog.txt";
-    let mut store = MemStore::make(rt.alloc(), &[], 0)?;
-    keep(&rt, &mut store, catalog, CATALOG)?;
-    expect_asked(
-        &rt,
-        &mut store,
-        "t",
-        "where a < 3",
-        8,
-        "error 8 damaged t/p0000/a Missing\n",
-    )?;
-    for (file, bytes, code, printed) in [
-        ("t/p0000/a", b"1234567890123".as_slice(), 8, length),
-        ("t/p0000/a", b"".as_slice(), 8, length),
-        ("t/p0000/a", b"\xff\xff\xff\xff".as_slice(), 0, "hits 1\n"),
-        (catalog, b"".as_slice(), 8, text),
+    for (file, bytes, printed) in [
         (
-            catalog,
-            b"fastbit catalog 1\nschema a:int\nnext 1\npart 0".as_slice(),
-            8,
-            text,
+            "D/-catalog.txt",
+            b"fastbit catalog 1\n".as_slice(),
+            "error 8 damaged D/-catalog.txt Text\n",
         ),
         (
-            catalog,
-            b"fastbit catalog 1\nschema a:int\nnext 2\npart 0\n".as_slice(),
-            8,
-            text,
+            "D/p0000/-part.txt",
+            b"".as_slice(),
+            "error 8 damaged D/p0000/-part.txt Text\n",
         ),
         (
-            catalog,
-            b"fastbit catalog 1\nschema a:byte\nnext 1\npart 0\n".as_slice(),
-            8,
-            text,
+            "D/p0000/a",
+            b"\x01\0\0\0\x02".as_slice(),
+            "error 8 damaged D/p0000/a Length\n",
+        ),
+        (
+            "D/p0000/a.msk",
+            b"\x02\0\0\0\0\0\0\0\x03\0\0\0".as_slice(),
+            "error 8 damaged D/p0000/a.msk Mask\n",
         ),
     ] {
+        let mut store = MemStore::make(rt.alloc(), &[], 0)?;
+        expect_load(&rt, &mut store, LOAD, "1\n", 0, "loaded 1 rows\n")?;
         keep(&rt, &mut store, file, bytes)?;
-        expect_asked(&rt, &mut store, "t", "where a < 3", code, printed)?;
+        expect_five(
+            &rt,
+            &mut store,
+            ["ibis", "-d", "D", "-q", "where a < 3"],
+            8,
+            printed,
+        )?;
     }
     Ok(())
 }
 
 #[test]
-fn counts_over_many_blocks(rt: HostRuntime) -> Result<(), Fail> {
-    let mut store = MemStore::make(rt.alloc(), &[], 0)?;
-    let mut bytes = Vec::new(rt.alloc());
-    for _ in 0..250_000 {
-        bytes.extend_from_slice(b"\x01\x00\x00\x00\x02\x00\x00\x00")?;
-    }
-    keep(&rt, &mut store, "t/-catalog.txt", CATALOG)?;
-    keep(&rt, &mut store, "t/p0000/a", &bytes)?;
-    expect_asked(&rt, &mut store, "t", "where a < 2", 0, "hits 250000\n")?;
-    expect_asked(&rt, &mut store, "t", "where a < 3", 0, "hits 500000\n")?;
-    bytes.extend_from_slice(b"\x01\x00\x00\x00")?;
-    keep(&rt, &mut store, "t/p0000/a", &bytes)?;
-    expect_asked(
-        &rt,
-        &mut store,
-        "t",
-        "where a < 2",
-        8,
-        "error 8 damaged t/p0000/a Length\n",
-    )?;
-    Ok(())
-}
-
-#[test]
-fn a_question_to_a_failing_store_is_not_answered(rt: HostRuntime) -> Result<(), Fail> {
-    for (call, code, printed) in [
-        (2, 11, ""),
-        (3, 11, ""),
-        (4, 11, ""),
-        (5, 11, ""),
-        (6, 0, "hits 1\n"),
-    ] {
-        let fail = FailAt {
-            call,
-            keep_new: false,
-        };
-        let mut store = MemStore::make(rt.alloc(), &[fail], 0)?;
-        keep(&rt, &mut store, "t/-catalog.txt", CATALOG)?;
-        keep(&rt, &mut store, "t/p0000/a", b"\x01\x00\x00\x00")?;
-        expect_asked(&rt, &mut store, "t", "where a < 3", code, printed)?;
-    }
-    Ok(())
-}
-
-#[test]
-fn reads_as_many_bytes_as_the_limit(rt: HostRuntime) -> Result<(), Fail> {
-    let mut store = MemStore::make(rt.alloc(), &[], 0)?;
-    let mut input = Vec::new(rt.alloc());
-    for _ in 0..500_000 {
-        input.extend_from_slice(b"1\n")?;
-    }
-    expect(
-        &rt,
-        &mut store,
-        &make_case(LOAD_T, &input, 0, "loaded 500000 rows\n"),
-    )?;
-    input.push(b'\n')?;
-    expect(
-        &rt,
-        &mut store,
-        &make_case(
-            LOAD_U,
-            &input,
-            9,
-            "error 9 limit input 1000001 over 1000000\n",
-        ),
-    )?;
-    Ok(())
-}
-
-#[test]
-fn a_failing_store_leaves_the_old_table_or_the_new_one(rt: HostRuntime) -> Result<(), Fail> {
-    for (call, keep_new, code, printed) in [
-        (0, false, 0, "loaded 1 rows\n"),
-        (1, true, 0, "loaded 1 rows\n"),
-        (2, false, 0, "loaded 1 rows\n"),
-        (2, true, 4, DIFFERS),
+fn each_put_of_a_load_fails_in_turn(rt: HostRuntime) -> Result<(), Fail> {
+    for (call, keep_new, hits) in [
+        (6, false, "hits 1\n"),
+        (7, true, "hits 1\n"),
+        (8, false, "hits 1\n"),
+        (9, false, "hits 1\n"),
+        (9, true, "hits 2\n"),
     ] {
         let mut store = MemStore::make(rt.alloc(), &[FailAt { call, keep_new }], 0)?;
-        expect(&rt, &mut store, &make_case(LOAD_T, b"7\n", 11, ""))?;
-        expect(&rt, &mut store, &make_case(LOAD_T, b"7\n", code, printed))?;
-        expect_file(&rt, &store, "t/p0000/a", b"\x07\x00\x00\x00");
-        expect_file(&rt, &store, "t/-catalog.txt", CATALOG);
+        expect_load(&rt, &mut store, LOAD, "1\n", 0, "loaded 1 rows\n")?;
+        expect_load(&rt, &mut store, LOAD, "2\n", 11, "")?;
+        let below = &["ibis", "-d", "D", "-q", "where a < 9"];
+        expect_asked(&rt, &mut store, below, 0, hits)?;
     }
     Ok(())
 }
@@ -445,15 +347,15 @@ fn a_failing_input_or_output_has_its_status(rt: HostRuntime) -> Result<(), Fail>
     let mut store = MemStore::make(rt.alloc(), &[], 0)?;
     let unread = Case {
         source_fails: &[0],
-        ..make_case(LOAD_T, b"7\n", 10, "")
+        ..make_case(LOAD, b"7\n", 10, "")
     };
     expect(&rt, &mut store, &unread)?;
     assert!(rt; store.name(0).is_none());
+    expect_load(&rt, &mut store, LOAD, "7\n", 0, "loaded 1 rows\n")?;
     let unprinted = Case {
         sink_fails: &[0],
-        ..make_case(LOAD_T, b"7\n", 12, "")
+        ..make_case(&["ibis", "-d", "D", "-l"], b"", 12, "")
     };
     expect(&rt, &mut store, &unprinted)?;
-    expect_file(&rt, &store, "t/-catalog.txt", CATALOG);
     Ok(())
 }

@@ -4,7 +4,7 @@ use Rattle.std.proofs.Math.Seq.{take-add, take-append-add}
 use Rattle.std.proofs.lemmas.List.{length-take-le, take-take}
 use Rattle.std.proofs.lemmas.Slice.{take-put_mid}
 use borrow.Rule.Slice.PartMut.{put_mid}
-use Rattle.std.specs.Io.KnownBytes.{Appends, Consumes}
+use Rattle.std.specs.Io.KnownBytes.{Appends}
 
 pub Appends-nil : (old : Option (List ℕ)) → Appends old old []
 Appends-nil None = tt
@@ -16,24 +16,8 @@ Appends-append (Some a) None new xs ys h k = absurd h
 Appends-append (Some a) (Some b) None xs ys h k = absurd k
 Appends-append (Some a) (Some b) (Some c) xs ys h k = k ∙ ap (λ l. l ++ ys) h ∙ append_assoc a xs ys
 
-pub Consumes-append : (old mid new : Option (List ℕ)) (xs ys : List ℕ) → Consumes old mid xs → Consumes mid new ys → Consumes old new (xs ++ ys)
-Consumes-append None mid new xs ys h k = tt
-Consumes-append (Some a) None new xs ys h k = absurd h
-Consumes-append (Some a) (Some b) None xs ys h k = absurd k
-Consumes-append (Some a) (Some b) (Some c) xs ys h k = h ∙ ap (λ l. xs ++ l) k ∙ sym (append_assoc xs ys c)
-
 -- a front, and then some of what follows it
 pub longer_front : (bytes : List ℕ) (at n : ℕ) → take at bytes ++ take n (take (length bytes - at) (drop at bytes)) ≡ take (at + n) bytes
 longer_front bytes at n =
     let rest : take (length bytes - at) (drop at bytes) ≡ drop at bytes = take_all (length bytes - at) (drop at bytes) (omega (arith, length-drop at bytes)) in
     ap (λ l. take at bytes ++ take n l) rest ∙ sym (take-add at n bytes)
-
--- what was read into the middle comes behind the front
-pub front_of_mid : (a k n : ℕ) (xs ys : List ℕ) → a ≤ length xs → n ≤ length ys → take (a + n) (put_mid a k xs ys) ≡ take a xs ++ take n ys
-front_of_mid a k n xs ys h j =
-    let size : length (take a xs) ≡ a = length-take-le a xs h in
-    let mid = put_mid a k xs ys in
-    sym (take-take (a + n) (a + length ys) mid (omega arith))
-    ∙ ap (take (a + n)) (take-put_mid a k xs ys (a + length ys) refl h)
-    ∙ ap (λ m. take (m + n) (take a xs ++ ys)) (sym size)
-    ∙ take-append-add (take a xs) ys n

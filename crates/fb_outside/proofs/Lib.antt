@@ -1,8 +1,9 @@
 pub mod NameLemmas
+pub mod OpenLemmas
 pub mod MemoryLemmas
 pub mod StreamLemmas
-pub mod CauseLemmas
 pub mod FileLemmas
+pub mod PutLemmas
 pub mod ReadLemmas
 pub mod JoinLemmas
 pub mod KnownLemmas

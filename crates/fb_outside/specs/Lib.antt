@@ -6,3 +6,6 @@ pub mod Names
 pub mod NameTests
 pub mod Memory
 pub mod MemFiles
+pub mod Puts
+pub mod Answers
+pub mod Open

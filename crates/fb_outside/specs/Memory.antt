@@ -125,10 +125,16 @@ left_new (Ok _) keeps = true
 left_new (Err Failed) keeps = unwrap_or keeps false
 left_new (Err OutOfMemory) keeps = false
 
+-- the calls after a `put` that answered so: one for which memory ran out doesn't count
+abbrev pub put_counted : Counted → Result (Unit {0}) Trouble → Counted
+put_counted c (Ok _) = called c
+put_counted c (Err Failed) = called c
+put_counted c (Err OutOfMemory) = c
+
 -- after a `put` that answered so
 abbrev pub after_put : StoreState → List ℕ → List ℕ → Result (Unit {0}) Trouble → StoreState
 after_put s name bytes answer = record {
   entries = if left_new answer (next_fault s.counted) then put_entry s.entries name bytes else s.entries;
   noted = s.noted;
-  counted = called s.counted;
+  counted = put_counted s.counted answer;
 }

@@ -10,6 +10,12 @@ Takes old new bytes = old ≡ option_map (λ rest. bytes ++ rest) new
 abbrev pub IsAtEnd : Option (List ℕ) → Type 0
 IsAtEnd left = IfSome left (λ rest. rest ≡ [])
 
+-- this holds for some input, which is what the source has left where it tells that
+pub record ForSomeInput (left : Option (List ℕ)) (P : List ℕ → Type 0) : Type 0 where
+  pub input : List ℕ
+  pub told : IfSome left (λ bytes. bytes ≡ input)
+  pub holds : P input
+
 -- the bytes were put behind what was written
 abbrev pub Grows : Option (List ℕ) → Option (List ℕ) → List ℕ → Type 0
 Grows old new bytes = new ≡ option_map (λ all. all ++ bytes) old

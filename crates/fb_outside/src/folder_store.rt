@@ -1,47 +1,59 @@
-ghost use Rattle.std.specs.Prelude.{◌≡◌, ◌≤◌, None, IfOk, length};
+ghost use Rattle.std.specs.Prelude.{◌≡◌, ◌≢◌, ◌≤◌, [], None, IfOk, IfSome, OnOk, IsErr, IsErrOf, length, option_map};
+ghost use Rattle.fb_outside.specs.Causes.{HasCause};
+ghost use Rattle.fb_outside.specs.Files.{file_at, SameFiles, Puts, PutLeaves};
+ghost use Rattle.fb_outside.specs.Names.{IsFileName};
+ghost use Rattle.fb_outside.specs.Open.{without};
 
 use crate::faults::Faults;
+use crate::open_files::{OpenFile, OpenFiles};
 use crate::outside::{Failed, Store, Trouble};
-use crate::writing::{read_full, write_all};
+use crate::writing::write_all;
 use std::alloc::{AllocError, Global};
 use std::fs::{self, Files};
-use std::io::{self, ErrorKind, Seek, SeekFrom};
+use std::io::{self, ErrorKind};
 use std::marker::Model;
+use std::os::unix::fs::FileExt;
 
-const MAX_OFFSET: u64 = (1 << 63) - 1;
+/// The most bytes that a file of the system can have.
+const MOST_BYTES: u64 = (1 << 63) - 1;
 
 /// A store over the files of the runtime: pass `rt.clone()?`. A name is the file's path. A `put` makes the
 /// folders that are absent, writes a new file beside the old one, named with a `~` behind, and renames it.
-/// Contracts see it as its count of faults, and it tells nothing of its files.
+/// The eight files that were read last stay open, so that a read is one call of the system. What is asked
+/// after a length or a `put` of a name is asked of the file that has the name by then.
+/// Contracts see it as the names of its open files and its count of faults, and it tells nothing of its files.
 #[derive(Drop)]
 pub struct FolderStore<F: Files> {
     files: F,
     alloc: Global,
+    open: OpenFiles<F::File>,
     faults: Faults,
 }
 
 impl<F: Files> Model for FolderStore<F> {
-    ghost use Rattle.std.specs.Prelude.{ℕ};
+    ghost use Rattle.std.specs.Prelude.{ℕ, List};
 
-    ghost Value = { ℕ };
+    ghost Value = { List (List ℕ) × ℕ };
 
-    ghost view = { λ s. s.faults };
+    ghost view = { λ s. (s.«open», s.faults) };
 }
 
 impl<F: Files> FolderStore<F> {
     pub fn make(files: F, alloc: Global) -> FolderStore<F>
-        ensures { result ≡ 0 }
+        ensures { result ≡ ([], 0) }
     {
         FolderStore {
             files,
             alloc,
+            open: OpenFiles::none(alloc),
             faults: Faults::none(),
         }
     }
 
     /// Removes what a failed `put` may have left of its new file.
     fn forget(&mut self, fresh: &str)
-        ensures { self.old ≤ self.new }
+        ensures later { self.old.1 ≤ self.new.1 }
+        ensures kept { self.new.0 ≡ self.old.0 }
     {
         match fs::remove_file(&self.files, fresh) {
             Err(error) if error.kind() != ErrorKind::NotFound => self.faults.raise(),
@@ -50,14 +62,65 @@ impl<F: Files> FolderStore<F> {
     }
 }
 
-impl<F: Files> Store for FolderStore<F> {
-    ghost faults = { λ s. s };
+impl<F: Files> FolderStore<F>
+where
+    F::File: FileExt,
+{
+    /// Reads from `at` on, all that fits, and keeps the file open. An absent file gives nothing.
+    fn read_open(&mut self, name: &str, at: u64, buf: &mut [u8]) -> io::Result<usize>
+        ensures count { IfOk result (λ n. n ≤ length buf.new) }
+        ensures faults { self.new.1 ≡ self.old.1 }
+    {
+        // A file that can't be read isn't put back, so the next read opens it again.
+        match self.open.take(name) {
+            Some(kept) => {
+                let n = read_full_at(&kept.file, at, buf)?;
+                self.open.keep(kept);
+                Ok(n)
+            }
+            None => self.read_first(name, at, buf),
+        }
+    }
+
+    /// The same of a file that isn't open.
+    fn read_first(&mut self, name: &str, at: u64, buf: &mut [u8]) -> io::Result<usize>
+        ensures count { IfOk result (λ n. n ≤ length buf.new) }
+        ensures faults { self.new.1 ≡ self.old.1 }
+    {
+        let file = match fs::open(&self.files, name) {
+            Ok(file) => file,
+            Err(error) if error.kind() == ErrorKind::NotFound => return Ok(0),
+            Err(error) => return Err(error),
+        };
+        let n = read_full_at(&file, at, buf)?;
+        // Where there is no memory for the name, the file is closed, and the read stands.
+        if let Ok(name) = String::from_str(self.alloc, name) {
+            self.open.keep(OpenFile { name, file });
+        }
+        Ok(n)
+    }
+}
+
+impl<F: Files> Store for FolderStore<F>
+where
+    F::File: FileExt,
+{
+    ghost faults = { λ s. s.1 };
 
     ghost files = { λ _. None };
 
     ghost reads = { λ _. None };
 
-    fn len(&mut self, name: &str) -> Result<Option<u64>, Failed> {
+    fn len(&mut self, name: &str) -> Result<Option<u64>, Failed>
+        ensures cause { HasCause self.old.1 self.new.1 (IsErr result) }
+        ensures len { IfOk result (λ len. IfSome None (λ m. len ≡ option_map length (file_at m name.now))) }
+        ensures files { SameFiles None None }
+        ensures reads { SameFiles None None }
+
+        // What is read after it is of the file that has the name by then.
+        ensures closed { self.new.0 ≡ without name.now self.old.0 }
+    {
+        self.open.close(name);
         match file_len(&self.files, name) {
             Ok(len) => Ok(len),
             Err(_) => {
@@ -68,7 +131,7 @@ impl<F: Files> Store for FolderStore<F> {
     }
 
     fn read_at(&mut self, name: &str, at: u64, buf: &mut [u8]) -> Result<usize, Failed> {
-        match read_part(&self.files, name, at, buf) {
+        match self.read_open(name, at, buf) {
             Ok(n) => Ok(n),
             Err(_) => {
                 self.faults.raise();
@@ -77,7 +140,18 @@ impl<F: Files> Store for FolderStore<F> {
         }
     }
 
-    fn put(&mut self, name: &str, bytes: &[u8]) -> Result<(), Trouble> {
+    fn put(&mut self, name: &str, bytes: &[u8]) -> Result<(), Trouble>
+        requires { IsFileName name.now }
+        ensures cause { HasCause self.old.1 self.new.1 (IsErrOf result Trouble.Failed) }
+        ensures ok { OnOk result (Puts None None name.now bytes.now) }
+        ensures failed { IsErrOf result Trouble.Failed → PutLeaves name.now bytes.now None None }
+        ensures memory { IsErrOf result Trouble.OutOfMemory → SameFiles None None }
+        ensures reads { SameFiles None None }
+
+        // What is read after it is of the new file.
+        ensures closed { self.new.0 ≡ without name.now self.old.0 }
+    {
+        self.open.close(name);
         let Ok(fresh) = name_beside(self.alloc, name) else {
             return Err(Trouble::OutOfMemory);
         };
@@ -102,23 +176,22 @@ fn file_len<F: Files>(files: &F, name: &str) -> io::Result<Option<u64>> {
     }
 }
 
-/// Reads from `at` on, all that fits. An absent file gives nothing.
-fn read_part<F: Files>(files: &F, name: &str, at: u64, buf: &mut [u8]) -> io::Result<usize>
+/// Reads from `at` on until the buffer is full or the end comes, and answers how many bytes came.
+/// Each error ends it.
+fn read_full_at<T: FileExt>(file: &T, at: u64, buf: &mut [u8]) -> io::Result<usize>
     ensures { IfOk result (λ n. n ≤ length buf.new) }
 {
-    let mut file = match fs::open(files, name) {
-        Ok(file) => file,
-        Err(error) if error.kind() == ErrorKind::NotFound => return Ok(0),
-        Err(error) => return Err(error),
-    };
-    // No file is as long as that.
-    if at > MAX_OFFSET {
-        return Ok(0);
+    // The system refuses to look where no file can have a byte.
+    let room = MOST_BYTES.saturating_sub(at).min(buf.len() as u64) as usize;
+    let mut filled = 0;
+    while filled < room {
+        let n = file.read_at(&mut buf[filled..room], at + filled as u64)?;
+        if n == 0 {
+            break;
+        }
+        filled += n;
     }
-    if at > 0 {
-        file.seek(SeekFrom::Start(at))?;
-    }
-    read_full(&mut file, buf)
+    Ok(filled)
 }
 
 /// A name that no file of the store has, since a file's name has no `~`.

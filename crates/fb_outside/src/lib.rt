@@ -10,6 +10,7 @@ mod mem_sink;
 mod mem_source;
 mod mem_store;
 mod notes;
+mod open_files;
 mod outside;
 mod read_note;
 mod schedule;

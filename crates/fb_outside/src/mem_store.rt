@@ -159,15 +159,16 @@ impl Store for MemStore {
         ensures passes { IsOk result → IsNone (next_fault self.old.counted) }
         ensures after { self.new ≡ after_put self.old name.now bytes.now result }
     {
-        let fault = self.schedule.count();
-        if let Some(false) = fault {
+        if let Some(false) = self.schedule.next() {
+            self.schedule.count();
             return Err(Trouble::Failed);
         }
+        // Memory may run out here: then the call doesn't count, and nothing changed.
         match keep_file(self.alloc, &mut self.files, name, bytes) {
             Ok(()) => {}
             Err(_) => return Err(Trouble::OutOfMemory),
         }
-        match fault {
+        match self.schedule.count() {
             Some(_) => Err(Trouble::Failed),
             None => Ok(()),
         }

@@ -4,7 +4,9 @@ ghost use Rattle.fb_outside.specs.Streams.{Takes, IsAtEnd, Grows, GrowsInPart};
 ghost use Rattle.fb_outside.specs.Files.{Files, file_at, bytes_at, SameFiles, Puts, PutLeaves};
 ghost use Rattle.fb_outside.specs.Reads.{Look, AddsRead};
 ghost use Rattle.fb_outside.specs.Names.{IsFileName};
+ghost use Rattle.fb_outside.specs.declared.outside.Trouble.TheVariants as trouble_;
 
+use std::alloc::AllocError;
 use thiserror::Error;
 
 /// The outside failed: the count of faults of the object that was called rose.
@@ -19,6 +21,14 @@ pub enum Trouble {
     Failed,
     #[error("out of memory")]
     OutOfMemory,
+}
+
+impl From<AllocError> for Trouble {
+    ghost from_gives = { λ _ trouble. trouble ≡ trouble_.OutOfMemory };
+
+    fn from(_error: AllocError) -> Trouble {
+        Trouble::OutOfMemory
+    }
 }
 
 /// Bytes that come in.

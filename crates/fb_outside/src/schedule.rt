@@ -47,14 +47,22 @@ impl Schedule {
         })
     }
 
+    /// Whether the call that comes next fails, and then whether it leaves the new bytes.
+    pub(crate) fn next(&self) -> Option<bool>
+        ensures { result ≡ next_fault self.now }
+    {
+        fault_in(self.fails.as_slice(), self.calls)
+    }
+
     /// Counts one more call. Answers whether it fails, and then whether it leaves the new bytes.
     pub(crate) fn count(&mut self) -> Option<bool>
         ensures fault { result ≡ next_fault self.old }
         ensures after { self.new ≡ called self.old }
         ensures later { self.old.faults ≤ self.new.faults }
         ensures rose { IsSome result → Rose self.old.faults self.new.faults }
+        ensures told { (IsSome result → ⊥) → self.new.faults ≡ self.old.faults }
     {
-        let fault = fault_in(self.fails.as_slice(), self.calls);
+        let fault = self.next();
         self.calls = self.calls.saturating_add(1);
         if fault.is_some() {
             self.faults = self.faults.saturating_add(1);

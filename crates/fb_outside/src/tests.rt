@@ -334,3 +334,95 @@ fn adapts_folders(rt: HostRuntime) -> Result<(), Fail> {
     fs::remove_dir_all(&rt, FOLDER)?;
     Ok(())
 }
+
+/// The put goes well.
+fn check_put<S: Store, R: Abort>(rt: &R, store: &mut S, name: &FileName, bytes: &[u8]) {
+    assert!(rt; store.put(name.as_str(), bytes).is_ok());
+}
+
+#[test]
+fn reads_the_new_bytes_of_open_files(rt: HostRuntime) -> Result<(), Fail> {
+    let _ = fs::remove_dir_all(&rt, "fb_outside_open");
+    let (a, b) = (
+        named(&rt, "fb_outside_open/a"),
+        named(&rt, "fb_outside_open/b"),
+    );
+    let mut store = FolderStore::make(rt.clone()?, rt.alloc());
+    check_reads(&rt, &mut store, &a, &[(0, b"")]);
+    check_put(&rt, &mut store, &a, b"123456");
+    check_put(&rt, &mut store, &b, b"old");
+    let cases = [(4, b"56".as_slice()), (1, b"2345"), (6, b""), (0, b"1234")];
+    check_reads(&rt, &mut store, &a, &cases);
+    check_reads(&rt, &mut store, &b, &[(0, b"old")]);
+    // A put is seen at once, and leaves the other file.
+    check_put(&rt, &mut store, &b, b"new b");
+    check_reads(&rt, &mut store, &a, &cases);
+    check_reads(&rt, &mut store, &b, &[(0, b"new "), (4, b"b")]);
+    assert_eq!(rt; store.len(b.as_str()), Ok(Some(5)));
+    check_reads(&rt, &mut store, &b, &[(3, b" b")]);
+    fs::remove_dir_all(&rt, "fb_outside_open")?;
+    Ok(())
+}
+
+#[test]
+fn reads_files_that_are_taken_away(rt: HostRuntime) -> Result<(), Fail> {
+    let _ = fs::remove_dir_all(&rt, "fb_outside_away");
+    let name = named(&rt, "fb_outside_away/a");
+    let mut store = FolderStore::make(rt.clone()?, rt.alloc());
+    check_put(&rt, &mut store, &name, b"old");
+    let cases = [
+        (1, b"ld".as_slice()),
+        (1 << 62, b""),
+        ((1 << 63) - 2, b""),
+        (1 << 63, b""),
+    ];
+    check_reads(&rt, &mut store, &name, &cases);
+    // It stays until its length is asked.
+    fs::remove_file(&rt, name.as_str())?;
+    check_reads(&rt, &mut store, &name, &cases);
+    assert_eq!(rt; store.len(name.as_str()), Ok(None));
+    check_reads(&rt, &mut store, &name, &[(1, b"")]);
+    check_put(&rt, &mut store, &name, b"new");
+    check_reads(&rt, &mut store, &name, &[(1, b"ew")]);
+    fs::remove_dir_all(&rt, "fb_outside_away")?;
+    Ok(())
+}
+
+#[test]
+fn reads_more_files_than_stay_open(rt: HostRuntime) -> Result<(), Fail> {
+    let _ = fs::remove_dir_all(&rt, "fb_outside_many");
+    let mut store = FolderStore::make(rt.clone()?, rt.alloc());
+    for i in 0..20u8 {
+        let text = format!(in rt.alloc(); "fb_outside_many/{i}")?;
+        let name = named(&rt, text.as_str());
+        check_put(&rt, &mut store, &name, &[b'a', i]);
+        check_reads(&rt, &mut store, &name, &[(1, &[i])]);
+    }
+    // Ten in turn, twice, and one of them between the others.
+    let often = named(&rt, "fb_outside_many/3");
+    for i in 0..20u8 {
+        let file = i % 10;
+        let text = format!(in rt.alloc(); "fb_outside_many/{file}")?;
+        let name = named(&rt, text.as_str());
+        check_reads(&rt, &mut store, &name, &[(1, &[file]), (0, &[b'a', file])]);
+        check_reads(&rt, &mut store, &often, &[(1, &[3])]);
+    }
+    fs::remove_dir_all(&rt, "fb_outside_many")?;
+    Ok(())
+}
+
+#[test]
+fn opens_a_file_again_after_a_fault(rt: HostRuntime) -> Result<(), Fail> {
+    let _ = fs::remove_dir_all(&rt, "fb_outside_again");
+    let name = named(&rt, "fb_outside_again/a");
+    let mut store = FolderStore::make(rt.clone()?, rt.alloc());
+    fs::create_dir_all(&rt, name.as_str())?;
+    assert_eq!(rt; store.read_at(name.as_str(), 0, &mut []), Ok(0));
+    assert_eq!(rt; store.read_at(name.as_str(), 0, &mut [0]), Err(Failed));
+    assert_eq!(rt; store.read_at(name.as_str(), 1, &mut [0]), Err(Failed));
+    fs::remove_dir_all(&rt, name.as_str())?;
+    fs::write(&rt, name.as_str(), b"file")?;
+    check_reads(&rt, &mut store, &name, &[(0, b"file"), (2, b"le")]);
+    fs::remove_dir_all(&rt, "fb_outside_again")?;
+    Ok(())
+}

@@ -3,8 +3,9 @@ use Rattle.std.proofs.Common.{◌≡◌, ℕ, ◌-◌, ◌≤◌, Bool, true, fa
 use Rattle.std.specs.Prelude.{reverse}
 use Rattle.std.specs.List.{list_all, prefix_len, take_while}
 use Rattle.std.proofs.lemmas.List.{drop_at, take_at, take-append-drop, length-reverse, reverse-append, reverse-reverse, length-drop}
-use Rattle.std.proofs.lemmas.List.Folds.{length-prefix_len, list_all-append}
+use Rattle.std.proofs.lemmas.List.Folds.{length-prefix_len}
 use Rattle.std.proofs.lemmas.List.Sums.{take_while-cons}
+use Rattle.lexing.proofs.Runs.{append_all}
 use Rattle.fb_types.specs.Field.{is_blank, blanks_before, trimmed, without_leading_blanks, without_trailing_blanks}
 use Rattle.fb_types.specs.SchemaText.{IsPadded}
 use Rattle.fb_types.proofs.NameFacts.{both_left, both_right}
@@ -29,16 +30,13 @@ prefix_none_front : (p : ℕ → Bool) (xs rest : List ℕ) → list_all (λ b. 
 prefix_none_front p [] rest none some = absurd (omega arith)
 prefix_none_front p (b ∷ bs) rest none some = rw (not_false (p b) (both_left _ _ none)) refl
 
-pub both_pass : (p : ℕ → Bool) (xs ys : List ℕ) → list_all p xs ≡ true → list_all p ys ≡ true → list_all p (xs ++ ys) ≡ true
-both_pass p xs ys left right = rw (list_all-append p xs ys, left) right
-
 all_reverse : (p : ℕ → Bool) (xs : List ℕ) → list_all p xs ≡ true → list_all p (reverse xs) ≡ true
 all_reverse p [] all = refl
 all_reverse p (b ∷ bs) all =
     let one : list_all p (b ∷ []) ≡ true = rw (both_left (p b) _ all) refl in
     let others = all_reverse p bs (both_right (p b) _ all) in
     let turned : reverse (b ∷ bs) ≡ reverse bs ++ b ∷ [] = reverse-append (b ∷ []) bs in
-    rw turned (both_pass p (reverse bs) (b ∷ []) others one)
+    rw turned (append_all p (reverse bs) (b ∷ []) others one)
 
 front_passes : (p : ℕ → Bool) (xs : List ℕ) → list_all p (take_while p xs) ≡ true
 front_passes p [] = refl

@@ -1,42 +1,14 @@
--- Numbers read digit by digit, and cut where no type lets them in.
-use Rattle.std.proofs.Common.{◌≡◌, ℕ, ◌+◌, ◌-◌, ◌*◌, ◌^◌, ◌<◌, ◌≤◌, true, false, List, [], ◌∷◌, ◌++◌, length, get_or, take, min, refl, ap, ◌∙◌, sym, arith, Option, Some, None, ℤ, pos, negsuc, neg_ℤ, ◌&&◌, inl, inr, int_le, ◌<ℤ◌}
-use Rattle.std.specs.List.{list_all}
-use Rattle.std.specs.Char.{is_ascii_digit, digit_value}
-use Rattle.std.specs.Str.Parse.{digits_value, digits_value_after}
-use Rattle.std.proofs.lemmas.List.{take_more}
+-- Numbers that are cut where no type lets them in.
+use Rattle.std.proofs.Common.{◌≡◌, ℕ, ◌-◌, ◌^◌, ◌<◌, ◌≤◌, false, List, [], ◌∷◌, length, min, refl, ap, ◌∙◌, sym, arith, Option, Some, None, ℤ, pos, negsuc, neg_ℤ, ◌&&◌, inl, inr, int_le, ◌<ℤ◌}
 use Rattle.std.specs.Option.{option_map}
 use Rattle.std.proofs.lemmas.Bool.{cases_lt, lt-leb}
-use Rattle.std.proofs.lemmas.Bool.Decides.{nat_tests}
 use Rattle.std.proofs.lemmas.Int.{ints}
 use Rattle.std.proofs.Math.Bool.{and-false}
 use Rattle.fb_types.specs.declared.types.ColType.{ColType}
 use Rattle.fb_types.specs.declared.types.ColType.TheVariants.{Byte, UByte, Short, UShort, Int, UInt, Long, ULong, Category, Text}
 use Rattle.fb_types.specs.declared.fields.FieldAnswer.TheVariants.{OutOfRange}
 use Rattle.fb_types.specs.Types.{ends_of}
-use Rattle.fb_types.specs.Field.{natural_of, whole_of, capped, number_answer, text_answer}
-
-digits_value_after-append : (n : ℕ) (ds : List ℕ) (d : ℕ) → digits_value_after 10 n (ds ++ d ∷ []) ≡ digits_value_after 10 n ds * 10 + digit_value d
-digits_value_after-append n [] d = refl
-digits_value_after-append n (e ∷ ds) d = digits_value_after-append (n * 10 + digit_value e) ds d
-
--- the number of one digit more
-pub digits_value-more : (ds : List ℕ) (i : ℕ) → i < length ds → digits_value 10 (take (i + 1) ds) ≡ digits_value 10 (take i ds) * 10 + digit_value (get_or ds i 0)
-digits_value-more ds i h = rw (take_more ds i 0 h) (digits_value_after-append 0 (take i ds) (get_or ds i 0))
-
-pub digit_value-ascii : (d : ℕ) → is_ascii_digit d ≡ true → digit_value d ≡ d - 48
-digit_value-ascii d h = grind (arith, nat_tests)
-
--- cutting after each step is cutting at the end
-pub cut_step : (n d : ℕ) → min (min n (2 ^ 64) * 10 + d) (2 ^ 64) ≡ min (n * 10 + d) (2 ^ 64)
-cut_step n d = omega arith
-
-pub natural_of-digits : (ds : List ℕ) → 0 < length ds → list_all is_ascii_digit ds ≡ true → natural_of ds ≡ Some (digits_value 10 ds)
-natural_of-digits [] some all = absurd (omega arith)
-natural_of-digits (d ∷ ds) some all = rw all refl
-
-pub natural_of-other : (ds : List ℕ) → list_all is_ascii_digit ds ≡ false → natural_of ds ≡ None
-natural_of-other [] other = refl
-natural_of-other (d ∷ ds) other = rw other refl
+use Rattle.fb_types.specs.Field.{whole_of, capped, number_answer, text_answer}
 
 -- a number outside the ends
 answer_outside : (z low high : ℤ) → (int_le low z && int_le z high) ≡ false → number_answer (Some z) (Some (low, high)) ≡ OutOfRange

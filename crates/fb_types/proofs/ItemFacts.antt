@@ -18,7 +18,8 @@ use Rattle.fb_types.specs.Field.{is_blank, trimmed}
 use Rattle.fb_types.specs.Names.{IsColumnName, column_name, continues_name, is_column_name}
 use Rattle.fb_types.specs.SchemaText.{IsPadded, SpellsName, SpellsType, Writes, column_text, is_colon, is_comma, name_in, type_in, type_named}
 use Rattle.fb_types.specs.Types.{type_name}
-use Rattle.fb_types.proofs.BlankFacts.{both_pass, padded_trimmed, prefix_past, trimmed_is}
+use Rattle.lexing.proofs.Runs.{append_all}
+use Rattle.fb_types.proofs.BlankFacts.{padded_trimmed, prefix_past, trimmed_is}
 use Rattle.fb_types.proofs.NameFacts.{both_left, column_name-named, both_right, kept_if, lower_same, name_continues, name_some}
 
 -- ---- bytes of names and types
@@ -88,8 +89,8 @@ no_type = refl
 
 padded_so : (p : ℕ → Bool) → ((b : ℕ) → is_blank b ≡ true → p b ≡ true) → (bytes piece : List ℕ) → IsPadded bytes piece → list_all p piece ≡ true → list_all p bytes ≡ true
 padded_so p so bytes piece padded all =
-    let back = both_pass p piece padded.back all (all_so is_blank p so padded.back padded.blank_back) in
-    rw padded.cut (both_pass p padded.front (piece ++ padded.back) (all_so is_blank p so padded.front padded.blank_front) back)
+    let back = append_all p piece padded.back all (all_so is_blank p so padded.back padded.blank_back) in
+    rw padded.cut (append_all p padded.front (piece ++ padded.back) (all_so is_blank p so padded.front padded.blank_front) back)
 
 -- what `name_in` and `type_in` give of an item, which has no comma
 pub record Reads (item : List ℕ) (column : Column) : Type 0 where
@@ -148,7 +149,7 @@ item_whole item column w =
     let of_word = all_so (λ b. continues_name (to_ascii_lowercase b)) p not_comma in
     let left = padded_so p blank_no_comma w.left w.named.name w.named.padded (of_word w.named.name (name_word w.left column.name w.named)) in
     let right = padded_so p blank_no_comma w.right (type_name column.ty) w.typed (of_word (type_name column.ty) (type_word column.ty).0) in
-    rw w.cut (both_pass p w.left (58 ∷ w.right) left right)
+    rw w.cut (append_all p w.left (58 ∷ w.right) left right)
 
 -- ---- and one that is read is written
 

@@ -17,7 +17,8 @@ use Rattle.fb_types.specs.Schemas.{IsSchema}
 use Rattle.fb_types.specs.SchemaText.{AreRead, IsFaultIn, SchemaFault, Spells, Writes, column_text, columns_of, each_column, is_comma, items_of, read_schema, schema_or_fault, schema_text}
 use Rattle.fb_types.specs.Names.{IsColumnName}
 use Rattle.fb_types.specs.Types.{type_name}
-use Rattle.fb_types.proofs.BlankFacts.{both_pass, not_false}
+use Rattle.lexing.proofs.Runs.{append_all}
+use Rattle.fb_types.proofs.BlankFacts.{not_false}
 use Rattle.fb_types.proofs.AllOrFirstFacts.{all-found, all-ok}
 use Rattle.fb_types.proofs.EachFacts.{EachSo, each-so, schema_ok, so-each, so-free, so-written, written-so}
 use Rattle.fb_types.proofs.ItemFacts.{item_whole, name-line, printed_item, type-line}
@@ -169,14 +170,14 @@ schema_text-injective a b left right same =
 -- ---- a printed schema is one line
 
 pub column_text-line : (column : Column) → IsColumnName column.name → list_all (λ b. not (b == 10)) (column_text column) ≡ true
-column_text-line column named = both_pass (λ b. not (b == 10)) column.name (58 ∷ type_name column.ty) (name-line column.name named) (type-line column.ty)
+column_text-line column named = append_all (λ b. not (b == 10)) column.name (58 ∷ type_name column.ty) (name-line column.name named) (type-line column.ty)
 
 join-line : (columns : List Column) (taken : List (List ℕ)) → AreFree taken columns → list_all (λ b. not (b == 10)) (join_with_byte 44 (map column_text columns)) ≡ true
 unfolding AreFree
 join-line [] taken free = refl
 join-line (column ∷ []) taken free = column_text-line column free.0
 join-line (column ∷ next ∷ columns) taken free =
-    both_pass (λ b. not (b == 10)) (column_text column) (44 ∷ join_with_byte 44 (map column_text (next ∷ columns))) (column_text-line column free.0)
+    append_all (λ b. not (b == 10)) (column_text column) (44 ∷ join_with_byte 44 (map column_text (next ∷ columns))) (column_text-line column free.0)
     (join-line (next ∷ columns) (taken ++ column.name ∷ []) free.2)
 
 -- the printed text of a schema has no line feed

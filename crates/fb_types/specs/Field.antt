@@ -1,15 +1,15 @@
 -- What the field of a whole column says.
-use Rattle.std.specs.Prelude.{ℕ, Bool, ◌&&◌, ◌||◌, ◌==◌, ℤ, pos, neg_ℤ, int_le, Option, Some, None, List, [], ◌∷◌, length, take, drop, ◌-◌, ◌^◌, min, negsuc, reverse, if◌then◌else◌}
-use Rattle.std.specs.List.{list_all, take_while}
-use Rattle.std.specs.Char.{is_ascii_digit}
+use Rattle.std.specs.Prelude.{ℕ, Bool, ◌&&◌, ◌||◌, ◌==◌, true, false, ℤ, pos, int_le, Option, Some, None, List, [], ◌∷◌, length, take, drop, ◌-◌, ◌^◌, min, negsuc, reverse, if◌then◌else◌}
+use Rattle.std.specs.List.{take_while}
 use Rattle.std.specs.Option.{option_map}
-use Rattle.std.specs.Str.Parse.{digits_value}
+pub use Rattle.lexing.specs.Digits.{natural_of}
+use Rattle.lexing.specs.Digits.{signed}
 use Rattle.fb_types.specs.declared.types.ColType.{ColType}
 use Rattle.fb_types.specs.declared.fields.FieldAnswer.{FieldAnswer}
 use Rattle.fb_types.specs.declared.fields.FieldAnswer.TheVariants.{Null, Value, NotWhole, OutOfRange}
 use Rattle.fb_types.specs.Types.{ends_of}
 
--- a space or a tab
+-- a space or a tab; between tokens line ends are blanks, too (`is_blank` of `lexing`)
 abbrev pub is_blank : ℕ → Bool
 is_blank b = b == 32 || b == 9
 
@@ -27,17 +27,12 @@ without_trailing_blanks bytes = take (length bytes - blanks_before (reverse byte
 abbrev pub trimmed : List ℕ → List ℕ
 trimmed bytes = without_trailing_blanks (without_leading_blanks bytes)
 
--- the number that one or more decimal digits write
-abbrev pub natural_of : List ℕ → Option ℕ
-natural_of [] = None
-natural_of (d ∷ ds) = if list_all is_ascii_digit (d ∷ ds) then Some (digits_value 10 (d ∷ ds)) else None
-
 -- the number that digits write, or digits after one `+` (43) or `-` (45)
 abbrev pub whole_of : List ℕ → Option ℤ
 whole_of [] = None
 whole_of (b ∷ bs) =
-    if b == 45 then option_map (λ n. neg_ℤ (pos n)) (natural_of bs)
-    else option_map (λ n. pos n) (natural_of (if b == 43 then bs else b ∷ bs))
+    if b == 45 then option_map (signed true) (natural_of bs)
+    else option_map (signed false) (natural_of (if b == 43 then bs else b ∷ bs))
 
 -- a number beyond 2 ^ 64 in size, cut to that: no type's ends let either in
 abbrev pub capped : ℤ → ℤ

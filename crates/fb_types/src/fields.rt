@@ -64,21 +64,12 @@ fn whole(text: &[u8]) -> Option<i128>
     }
 }
 
-/// The number that digits write, cut to 2^64.
-fn natural(digits: &[u8]) -> Option<u128>
+/// The number that one or more digits write, cut to 2^64; None for any other bytes.
+pub fn natural(digits: &[u8]) -> Option<u128>
     ensures { result ≡ option_map (λ n. min n (2 ^ 64)) (natural_of digits.now) }
 {
-    if digits.is_empty() {
-        return None;
-    }
-    let mut value = 0u128;
-    for digit in digits {
-        if !digit.is_ascii_digit() {
-            return None;
-        }
-        value = (value * 10 + u128::from(*digit - b'0')).min(1 << 64);
-    }
-    Some(value)
+    let number = lexing::natural(digits)?;
+    Some(number.min(1 << 64))
 }
 
 pub(crate) fn trimmed(field: &[u8]) -> &[u8]

@@ -15,7 +15,7 @@ mod tests;
 mod types;
 
 pub use cells::{Cell, record_fits};
-pub use fields::{FieldAnswer, parse_whole};
+pub use fields::{FieldAnswer, natural, parse_whole};
 pub use labels::Label;
 pub use names::ColName;
 pub use schema_text::{MetaFault, SchemaKind, parse_schema, print_schema};

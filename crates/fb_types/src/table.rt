@@ -46,7 +46,16 @@ impl Columns {
         ensures ok { OnOk result (self.new ≡ add_record self.old cells.items) }
         ensures err { OnErr result (self.new ≡ self.old) }
     {
-        self.cells.extend(&cells)?;
+        self.push_slice(&cells)
+    }
+
+    /// Adds a record of these cells, whole or not at all.
+    pub fn push_slice(&mut self, cells: &[Cell]) -> Result<(), AllocError>
+        requires { RecordFits cells.now self.old.schema }
+        ensures ok { OnOk result (self.new ≡ add_record self.old cells.now) }
+        ensures err { OnErr result (self.new ≡ self.old) }
+    {
+        self.cells.extend(cells)?;
         self.rows += 1;
         Ok(())
     }

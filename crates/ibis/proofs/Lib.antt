@@ -1,4 +1,4 @@
-pub mod OpenLemmas
-pub mod CountLemmas
-pub mod ScanLemmas
+pub mod RowLemmas
+pub mod StepLemmas
+pub mod PartLemmas
 pub mod WorldLemmas

@@ -1,207 +1,263 @@
--- What a question comes to where the files stand for a world is what the world answers.
-use Rattle.std.proofs.Common.{◌≡◌, ◌⊎◌, ◌*◌, ◌/◌, ◌≤◌, ◌%◌, ℕ, suc, ℤ, Bool, true, false, List, [], ◌∷◌, length, map, Option, Some, None, Result, Ok, Err, inl, inr, refl, sym, ap, subst, ◌∙◌, arith, rules}
-use Rattle.std.specs.List.{All, filter, flat_map}
-use Rattle.std.specs.Prelude.{slice_index_or}
-use Rattle.std.proofs.lemmas.Bool.{eq-eqb, le-leb}
-use Rattle.std.proofs.lemmas.List.{append-nil, length-map}
-use Rattle.std.proofs.lemmas.List.Elements.{All-head, All-tail, All-nil, All-cons}
-use Rattle.fb_outside.specs.Files.{Files, file_at}
+-- What a question and a listing come to, and what that is where the files stand for a world.
+use Rattle.std.proofs.Common.{◌≡◌, ◌+◌, ◌<◌, ℕ, ℤ, Bool, true, false, cond, List, [], ◌∷◌, ◌++◌, length, map, get_or, Option, Some, None, IfSome, IsSome, Result, Ok, Err, refl, sym, ap, subst, ◌∙◌, arith}
+use Rattle.std.specs.List.{All, count_by, filter, flat_map, slice_get}
+use Rattle.std.specs.Prelude.{IfOk, slice_index_or}
+use Rattle.std.proofs.lemmas.List.Sums.{length-filter, sum_by-append}
+use Rattle.std.proofs.lemmas.Option.{slice_get-get_or}
+use Rattle.fb_outside.specs.Files.{Files}
 use Rattle.fb_outside.specs.Names.{IsPath}
 use Rattle.fb_types.specs.declared.cells.Cell.{Cell}
-use Rattle.fb_types.specs.declared.cells.Cell.TheVariants.{Null, Whole}
+use Rattle.fb_types.specs.declared.cells.Cell.TheVariants.{Null}
 use Rattle.fb_types.specs.declared.schemas.Column.{Column}
-use Rattle.fb_types.specs.declared.types.ColType.TheVariants.{Int}
-use Rattle.fb_types.specs.Cells.{RecordFits}
-use Rattle.where_grammar.specs.declared.clause.Clause.{Clause}
+use Rattle.fb_types.specs.declared.types.ColType.{ColType}
+use Rattle.fb_types.specs.declared.types.ColType.TheVariants.{Byte, UByte, Short, UShort, Int, UInt, Long, ULong, Category, Text}
+use Rattle.fb_types.specs.Types.{ends_of, width_of}
+use Rattle.where_grammar.specs.declared.clause.Atom.TheVariants.{Compare}
+use Rattle.where_grammar.specs.declared.clause.ClauseFault.{ClauseFault}
+use Rattle.where_grammar.specs.declared.clause.ClauseFault.TheVariants as text_
+use Rattle.where_grammar.specs.declared.clause.Op.TheVariants.{Less}
 use Rattle.where_grammar.specs.declared.clause.QueryKind.{QueryKind}
-use Rattle.where_grammar.specs.Holds.{holds}
-use Rattle.column_file.specs.Values.{ValueFits, numbers_of, values_bytes}
-use Rattle.column_file.proofs.ValuesLemmas.{length-values_bytes, values_again}
-use Rattle.part_meta.specs.CatalogText.{catalog_text}
-use Rattle.part_meta.specs.FileNames.{catalog_name, values_name}
-use Rattle.part_meta.proofs.CatalogLemmas.{catalog_text-injective}
-use Rattle.world.specs.World.{Dataset, Partition, World, IsDataset, IsNumber, IsNoPart, IsOnePart, dataset_at}
-use Rattle.world.specs.Stands.{IsLoaded, PartRests, Rests, Stands, catalog_data, column_numbers, stored_number}
+use Rattle.where_grammar.specs.Holds.{compares, holds, number_passes}
+use Rattle.answers.specs.Answers.{Answers}
+use Rattle.where_grammar.specs.Language.{refusal}
+use Rattle.where_grammar.proofs.Parts.{holds-one}
+use Rattle.world.specs.PartFiles.{column_cells, part_data}
+use Rattle.world.specs.Stands.{Stands, StandsFor}
+use Rattle.world.specs.World.{Content, Partition, World, content_at, records_of}
+use Rattle.dataset.specs.Damage.{Damage, IsColumnDamaged}
+use Rattle.dataset.specs.Found.{Absent, Broken, Found, IsFound, There, dataset_in, found_by, found_in}
+use Rattle.dataset.specs.declared.content.Dataset.{Dataset}
+use Rattle.dataset.proofs.ColumnLemmas.{columns_undamaged, has_numbers}
+use Rattle.dataset.proofs.FitLemmas.{cells_fit}
+use Rattle.dataset.proofs.WorldLemmas.{found_is}
 use Rattle.statuses.specs.declared.Status.{Status}
-use Rattle.statuses.specs.declared.Status.TheVariants.{BadQuery, NoDataset}
+use Rattle.statuses.specs.declared.Status.TheVariants.{BadQuery}
+use Rattle.statuses.specs.declared.stop.Stop.{Stop}
+use Rattle.statuses.specs.declared.stop.Stop.TheVariants.{Refused, ReadFault, StoreFault, OutOfMemory}
 use Rattle.statuses.specs.Outcome.{◌>>=◌}
-use Rattle.ibis.specs.Query.{read_query, resolved}
-use Rattle.ibis.specs.Count.{count_result, hits}
-use Rattle.ibis.specs.Found.{Asks, Comes, Counted, Finds, NoCatalog, NoText, NotOpened, count_in, hits_in, is_values_length, passing, passing_in}
-use Rattle.ibis.proofs.OpenLemmas.{valid_loaded}
+use Rattle.ibis.specs.declared.query.Below.{Below}
+use Rattle.ibis.specs.Count.{CountComes, CountGives, CountsBy, CountsRecords, IsCountIn, IsDamagedIn, asked_of, counted, damaged_status, dataset_or_refusal, hits}
+use Rattle.ibis.specs.Listing.{ListComes, list_result}
+use Rattle.ibis.specs.Query.{clause_of, read_query, resolved}
+use Rattle.ibis.specs.Rows.{HasColumn, HasParts, cells_in_parts, passing}
+use Rattle.ibis.specs.Steps.{Finds, IsAsked, StopsIn, stop_of_text}
+use Rattle.ibis.proofs.RowLemmas.{passing-append, passing-cons}
 
-abbrev one : List ℕ → List Column
-one name = record { name = name; ty = Int } ∷ []
+-- ---- what is asked
 
--- ---- the records of a part, by the numbers of its values file
+asked_refused : (dir query : List ℕ) (found : Found) (kind : QueryKind) → read_query query ≡ Err kind → asked_of dir query found ≡ Err (BadQuery kind)
+unfolding asked_of
+asked_refused dir query found kind e = rw e refl
 
-Passing : Clause → List Column → List (List Cell) → Type 0
-Passing clause schema records =
-    length (filter (λ number. holds clause schema (Whole number ∷ [])) (column_numbers 0 records)) ≡ length (filter (holds clause schema) records)
+asked_unopened : (dir query : List ℕ) (found : Found) (below : Below) (status : Status) → read_query query ≡ Ok below
+    → dataset_or_refusal dir found ≡ Err status → asked_of dir query found ≡ Err status
+unfolding asked_of
+asked_unopened dir query found below status e h = rw (e, h) refl
 
-one_number : (clause : Clause) (schema : List Column) (number : ℤ) (records : List (List Cell)) (b : Bool) → holds clause schema (Whole number ∷ []) ≡ b
-    → Passing clause schema records → Passing clause schema ((Whole number ∷ []) ∷ records)
-unfolding Passing
-one_number clause schema number records true e rest = rw e (ap suc rest)
-one_number clause schema number records false e rest = rw e rest
+asked_there : (dir query : List ℕ) (dataset : Dataset) (below : Below) → read_query query ≡ Ok below
+    → asked_of dir query (There dataset) ≡ resolved dataset.schema below
+unfolding asked_of
+asked_there dir query dataset below e = rw e refl
 
-one_more : (clause : Clause) (schema : List Column) (cells : List Cell) (records : List (List Cell)) → IsNumber cells
-    → Passing clause schema records → Passing clause schema (cells ∷ records)
-one_more clause schema cells records n rest =
-    subst (λ (cs : List Cell). Passing clause schema (cs ∷ records)) (sym n.1)
-    (one_number clause schema n.0 records (holds clause schema (Whole n.0 ∷ [])) refl rest)
+is_there : (dir : List ℕ) (found : Found) (dataset : Dataset) → dataset_or_refusal dir found ≡ Ok dataset → found ≡ There dataset
+is_there dir Absent dataset e = absurd (cc)
+is_there dir (There d) dataset e = let same : d ≡ dataset = cc in ap There same
+is_there dir (Broken damage) dataset e = absurd (cc)
 
--- the numbers pass as the records do
-passing_records : (clause : Clause) (schema : List Column) (records : List (List Cell)) → All IsNumber records → Passing clause schema records
-unfolding Passing
-passing_records clause schema [] h = refl
-passing_records clause schema (cells ∷ records) h =
-    one_more clause schema cells records (All-head IsNumber cells records h) (passing_records clause schema records (All-tail IsNumber cells records h))
+err_same : (files : Option Files) (found : Found) (a b : Status) → CountsBy files found (Err b) (Err a) → a ≡ b
+err_same files found a b e = cc
 
--- the numbers keep to the ends of an `int`
-number_fits : (name : List ℕ) (number : ℤ) → RecordFits (Whole number ∷ []) (one name) → ValueFits number Int
-number_fits name number h = h.0
+-- ---- what a question comes to
 
-numbers_fit : (name : List ℕ) (records : List (List Cell)) → All IsNumber records → All (λ cells. RecordFits cells (one name)) records
-    → All (λ v. ValueFits v Int) (column_numbers 0 records)
-numbers_fit name [] h k = All-nil (λ v. ValueFits v Int)
-numbers_fit name (cells ∷ records) h k =
-    let n = All-head IsNumber cells records h in
-    let fits = subst (λ (cs : List Cell). RecordFits cs (one name)) n.1 (All-head (λ cs. RecordFits cs (one name)) cells records k) in
-    let first : column_numbers 0 (cells ∷ records) ≡ n.0 ∷ column_numbers 0 records =
-    ap (λ (cs : List Cell). stored_number (slice_index_or cs 0 Null) ∷ column_numbers 0 records) n.1 in
-    subst (All (λ v. ValueFits v Int)) (sym first)
-    (All-cons (λ v. ValueFits v Int) n.0 (column_numbers 0 records) (number_fits name n.0 fits)
-    (numbers_fit name records (All-tail IsNumber cells records h) (All-tail (λ cs. RecordFits cs (one name)) cells records k)))
+comes_refused : (dir query : List ℕ) (files : Option Files) (found : Found) (status : Status)
+    → IfOk (read_query query) (λ below. IfSome files (λ m. IsFound m dir found)) → asked_of dir query found ≡ Err status
+    → CountComes dir query files (Err status)
+comes_refused dir query files found status told e =
+    record { found = found; told = told; counts = subst (λ (r : Result Below Status). CountsBy files found r (Err status)) (sym e) refl }
 
-module _ (file : List ℕ) (clause : Clause) (name : List ℕ) (records : List (List Cell)) (some : 1 ≤ length records) (few : length records ≤ 500000)
-    (numbers : All IsNumber records) (fit : All (λ cells. RecordFits cells (one name)) records) where
-  abbrev bytes : List ℕ
-  bytes = values_bytes Int (column_numbers 0 records)
+pub text_stops : (dir query text : List ℕ) (files : Option Files) (fault : ClauseFault) → text ≡ query → Answers {T = Below} refusal (Err fault) (read_query text)
+    → CountGives dir query files (Err (stop_of_text fault))
+text_stops dir query text files (text_.Bad kind) same h =
+    let bad : read_query query ≡ Err kind = subst (λ (t : List ℕ). read_query t ≡ Err kind) same h in
+    comes_refused dir query files Absent (BadQuery kind) (rw bad tt) (asked_refused dir query Absent kind bad)
+text_stops dir query text files text_.OutOfMemory same h = tt
 
-  size : length bytes ≡ length records * 4
-  size = length-values_bytes Int (column_numbers 0 records) ∙ ap (λ n. n * 4) (length-map records _)
+module _ (dir query text : List ℕ) (files : Option Files) (below : Below) (same : text ≡ query) (given : read_query text ≡ Ok below) where
+  read : read_query query ≡ Ok below
+  read = subst (λ (t : List ℕ). read_query t ≡ Ok below) same given
 
-  good_length : is_values_length (length bytes) ≡ true
-  good_length =
-      let whole : length bytes % 4 ≡ 0 = omega (arith, size) in
-      let least : 4 ≤ length bytes = omega (arith, size) in
-      let most : length bytes ≤ 2000000 = omega (arith, size) in
-      rw (eq-eqb (length bytes % 4) 0 whole, le-leb 4 (length bytes) least, le-leb (length bytes) 2000000 most) refl
+  when_read : (P : Type 0) → P → IfOk (read_query query) (λ (b : Below). P)
+  when_read P h = subst (λ (r : Result Below QueryKind). IfOk r (λ (b : Below). P)) (sym read) h
 
-  read_again : numbers_of Int (length bytes / 4) bytes ≡ column_numbers 0 records
-  read_again =
-      let count : length bytes / 4 ≡ length (column_numbers 0 records) = omega (arith, size, length-values_bytes Int (column_numbers 0 records)) in
-      ap (λ k. numbers_of Int k bytes) count ∙ values_again Int (column_numbers 0 records) (search rules) (numbers_fit name records numbers fit)
+  pub opening_stops : (stop : Stop) → Finds dir files (Err stop) → CountGives dir query files (Err stop)
+  opening_stops (Refused status) h =
+      comes_refused dir query files h.found status (when_read (IfSome files (λ m. IsFound m dir h.found)) h.told) (asked_unopened dir query h.found below status read h.is)
+  opening_stops ReadFault h = h
+  opening_stops StoreFault h = tt
+  opening_stops OutOfMemory h = tt
 
-  pub counted : passing_in file (λ number. holds clause (one name) (Whole number ∷ [])) (Some bytes) ≡ Ok (length (filter (holds clause (one name)) records))
-  unfolding Passing
-  counted =
-      let test : ℤ → Bool = λ number. holds clause (one name) (Whole number ∷ []) in
-      let many : passing test bytes ≡ length (filter (holds clause (one name)) records) =
-      ap (λ ns. length (filter test ns)) read_again ∙ passing_records clause (one name) records numbers in
-      rw good_length (ap Ok many)
+  module _ (dataset : Dataset) (finds : Finds dir files (Ok dataset)) where
+    told_there : IfSome files (λ m. IsFound m dir (There dataset))
+    told_there = subst (λ (f : Found). IfSome files (λ m. IsFound m dir f)) (is_there dir finds.found dataset finds.is) finds.told
 
--- ---- a dataset's records
+    pub name_stops : (status : Status) → resolved dataset.schema below ≡ Err status → CountGives dir query files (Err (Refused status))
+    name_stops status e =
+        comes_refused dir query files (There dataset) status (when_read (IfSome files (λ m. IsFound m dir (There dataset))) told_there)
+        (asked_there dir query dataset below read ∙ e)
 
--- a catalog of a dataset is one that a load writes
-pub dataset_loaded : (d : Dataset) → IsDataset d → IsLoaded (catalog_data d)
-dataset_loaded d valid = record { schema = valid.schema; parts = by valid.parts }
-  where
-    by : IsNoPart d ⊎ IsOnePart d → ((d.next ≡ 0) × (map (λ part. part.number) d.parts ≡ [])) ⊎ ((d.next ≡ 1) × (map (λ part. part.number) d.parts ≡ 0 ∷ []))
-    by (inl h) = inl (h.next, ap (map (λ (part : Partition). part.number)) h.none)
-    by (inr h) = inr (h.next, ap (map (λ (part : Partition). part.number)) h.part)
+    comes_asked : (result : Result ℕ Status) → resolved dataset.schema below ≡ Ok below → CountsBy files (There dataset) (Ok below) result
+        → CountComes dir query files result
+    comes_asked result e h =
+        record {
+          found = There dataset;
+          told = when_read (IfSome files (λ m. IsFound m dir (There dataset))) told_there;
+          counts = subst (λ (r : Result Below Status). CountsBy files (There dataset) r result) (sym (asked_there dir query dataset below read ∙ e)) h;
+        }
 
--- over files of a dataset with one column
-module _ (m : Files) (dir : List ℕ) (clause : Clause) (name : List ℕ) where
-  abbrev Hits : List Partition → Type 0
-  Hits parts = hits_in m dir clause (one name) (map (λ part. part.number) parts) ≡ Ok (length (filter (holds clause (one name)) (flat_map (λ part. part.records) parts)))
+    pub count_comes : (column : Column) (after : Option Files) (result : Result ℕ Stop) → after ≡ files → IsAsked dataset.schema below column
+        → ((stop : Stop) → result ≡ Err stop → StopsIn after dataset column.name stop) → CountGives dir query files result
+    count_comes column after (Ok count) kept is stops = comes_asked (Ok count) is.resolves tt
+    count_comes column after (Err (Refused status)) kept is stops =
+        let h = stops (Refused status) refl in
+        let named : IfSome files (λ m. IsColumnDamaged m dataset below.name h.0) =
+        subst (λ (f : Option Files). IfSome f (λ m. IsColumnDamaged m dataset below.name h.0)) kept
+        (subst (λ (n : List ℕ). IfSome after (λ m. IsColumnDamaged m dataset n h.0)) is.named h.2) in
+        comes_asked (Err status) is.resolves (h.0, h.1, named)
+    count_comes column after (Err ReadFault) kept is stops = stops ReadFault refl
+    count_comes column after (Err StoreFault) kept is stops = tt
+    count_comes column after (Err OutOfMemory) kept is stops = tt
 
-  hits_none : Hits []
-  hits_none = refl
+-- ---- the records that a comparison holds on
 
-  hits_one : (records : List (List Cell)) → 1 ≤ length records → length records ≤ 500000 → All IsNumber records
-      → All (λ cells. RecordFits cells (one name)) records → PartRests m dir (one name) (record { number = 0; records = records })
-      → Hits (record { number = 0; records = records } ∷ [])
-  hits_one records some few numbers fit rests =
-      let file = values_name dir 0 name in
-      let test : ℤ → Bool = λ number. holds clause (one name) (Whole number ∷ []) in
-      ap (passing_in file test) (rests 0) ∙ counted file clause name records some few numbers fit
-      ∙ ap (λ (rs : List (List Cell)). Ok (length (filter (holds clause (one name)) rs))) (sym (append-nil records))
+count_by-append : {X : Type 0} (p : X → Bool) (xs ys : List X) → count_by p (xs ++ ys) ≡ count_by p xs + count_by p ys
+count_by-append p xs ys = sum_by-append (λ x. cond (p x) 1 0) xs ys
 
-HitsOf : Files → List ℕ → Clause → List Column → List Partition → Type 0
-HitsOf m dir clause schema parts =
-    hits_in m dir clause schema (map (λ part. part.number) parts) ≡ Ok (length (filter (holds clause schema) (flat_map (λ part. part.records) parts)))
+count_by_one : {X : Type 0} (p : X → Bool) (x : X) → count_by p (x ∷ []) ≡ cond (p x) 1 0
+count_by_one p x = omega arith
 
-hits_by : (m : Files) (dir : List ℕ) (clause : Clause) (d : Dataset) → IsDataset d → Rests m dir d → IsNoPart d ⊎ IsOnePart d → HitsOf m dir clause d.schema d.parts
-unfolding HitsOf
-hits_by m dir clause d valid rests (inl h) =
-    subst (λ (s : List Column). HitsOf m dir clause s d.parts) (sym valid.schema.is)
-    (subst (λ (ps : List Partition). HitsOf m dir clause (one valid.schema.name) ps) (sym h.none) (hits_none m dir clause valid.schema.name))
-hits_by m dir clause d valid rests (inr h) =
-    let part : Partition = record { number = 0; records = h.records } in
-    let there : PartRests m dir d.schema part =
-    All-head (PartRests m dir d.schema) part [] (subst (All (PartRests m dir d.schema)) h.part rests.parts) in
-    let fit : All (λ cells. RecordFits cells (one valid.schema.name)) h.records =
-    subst (λ (s : List Column). All (λ cells. RecordFits cells s) h.records) valid.schema.is h.valid.fit in
-    let rests_one : PartRests m dir (one valid.schema.name) part = subst (λ (s : List Column). PartRests m dir s part) valid.schema.is there in
-    subst (λ (s : List Column). HitsOf m dir clause s d.parts) (sym valid.schema.is)
-    (subst (λ (ps : List Partition). HitsOf m dir clause (one valid.schema.name) ps) (sym h.part)
-    (hits_one m dir clause valid.schema.name h.records h.valid.some h.few h.numbers fit rests_one))
+count_by-cons : {X : Type 0} (p : X → Bool) (x : X) (xs : List X) → count_by p (x ∷ xs) ≡ cond (p x) 1 0 + count_by p xs
+count_by-cons p x xs = count_by-append p (x ∷ []) xs ∙ ap (λ k. k + count_by p xs) (count_by_one p x)
 
-hits_of : (m : Files) (dir : List ℕ) (clause : Clause) (d : Dataset) → IsDataset d → Rests m dir d
-    → hits_in m dir clause d.schema (map (λ part. part.number) d.parts) ≡ Ok (hits clause d)
-unfolding HitsOf
-hits_of m dir clause d valid rests = hits_by m dir clause d valid rests valid.parts
+module _ (schema : List Column) (below : Below) (column : Column) (is : IsAsked schema below column) where
+  holds_cell : (cells : List Cell) → holds (clause_of below) schema cells
+      ≡ number_passes (λ number. compares Less number below.limit) (slice_index_or cells is.place Null)
+  holds_cell cells = let first = is.first in holds-one (Compare below.name Less below.limit) schema cells ∙ rw first refl
 
-count_known : (m : Files) (dir : List ℕ) (d : Dataset) → IsDataset d → Rests m dir d → (r : Result Clause Status)
-    → (r >>= (λ known. hits_in m dir known d.schema (map (λ part. part.number) d.parts))) ≡ (r >>= (λ known. Ok (hits known d)))
-count_known m dir d valid rests (Ok clause) = hits_of m dir clause d valid rests
-count_known m dir d valid rests (Err status) = refl
+  records_pass : (records : List (List Cell)) → passing below.limit (column_cells is.place records) ≡ count_by (holds (clause_of below) schema) records
+  records_pass [] = refl
+  records_pass (cells ∷ records) =
+      passing-cons below.limit (slice_index_or cells is.place Null) (column_cells is.place records)
+      ∙ ap (λ k. cond (number_passes (λ number. compares Less number below.limit) (slice_index_or cells is.place Null)) 1 0 + k) (records_pass records)
+      ∙ ap (λ b. cond b 1 0 + count_by (holds (clause_of below) schema) records) (sym (holds_cell cells))
+      ∙ sym (count_by-cons (holds (clause_of below) schema) cells records)
+
+  parts_pass : (parts : List Partition) → passing below.limit (cells_in_parts is.place parts)
+      ≡ count_by (holds (clause_of below) schema) (flat_map (λ part. part.records) parts)
+  parts_pass [] = refl
+  parts_pass (part ∷ parts) =
+      passing-append below.limit (column_cells is.place part.records) (cells_in_parts is.place parts)
+      ∙ ap (λ k. k + passing below.limit (cells_in_parts is.place parts)) (records_pass part.records)
+      ∙ ap (λ k. count_by (holds (clause_of below) schema) part.records + k) (parts_pass parts)
+      ∙ sym (count_by-append (holds (clause_of below) schema) part.records (flat_map (λ part. part.records) parts))
+
+whole_width : (ty : ColType) → IsSome (ends_of ty) → IsSome (width_of ty)
+whole_width Byte some = refl
+whole_width UByte some = refl
+whole_width Short some = refl
+whole_width UShort some = refl
+whole_width Int some = refl
+whole_width UInt some = refl
+whole_width Long some = refl
+whole_width ULong some = refl
+whole_width Category some = refl
+whole_width Text some = let bad : false ≡ true = some in cc
 
 -- ---- where the files stand for a world
 
-some_same : {x y : List ℕ} → Some x ≡ Some y → x ≡ y
-some_same e = cc
+module _ (m : Files) (world : World) (dir : List ℕ) (stands : Stands m world) (path : IsPath dir) where
+  -- the files of a column of a world's dataset have its cells
+  parts_there : (content : Content) (column : Column) (col : ℕ) → content_at world dir ≡ Some content → slice_get content.schema col ≡ Some column
+      → IsSome (ends_of column.ty) → HasParts m (dataset_in dir content) column col content.parts
+  parts_there content column col at in_schema some =
+      record {
+        are = refl;
+        numbers = λ i d less.
+            let part : Partition = get_or content.parts i d in
+            let listed : slice_get content.parts i ≡ Some part = slice_get-get_or content.parts i d less in
+            record {
+              numbers = has_numbers m world dir part col column stands
+                  (record { content = content; there = at; place = i; listed = listed; in_schema = in_schema }) (whole_width column.ty some);
+              fit = cells_fit part.records content.schema col column ((stands.valid dir content at).parts i d less).fit in_schema;
+            };
+      }
 
-refused_query : (dir query : List ℕ) (kind : QueryKind) (found : Option Dataset) → read_query query ≡ Err kind
-    → count_result dir query found ≡ Err (BadQuery kind)
-unfolding count_result
-refused_query dir query kind found e = rw e refl
+  abbrev pub Counts : Dataset → Below → Column → ℕ → ℕ → Type 0
+  Counts dataset below column col count = (parts : List Partition) → HasParts m dataset column col parts → count ≡ passing below.limit (cells_in_parts col parts)
 
-module _ (m : Files) (dir : List ℕ) (clause : Clause) (query : List ℕ) (read : read_query query ≡ Ok clause) where
-  -- what the world answers once the query is read
-  answer_absent : count_result dir query None ≡ Err (NoDataset (catalog_name dir))
-  unfolding count_result
-  answer_absent = rw read refl
+  counted_by : (query : List ℕ) (below : Below) (dataset : Dataset) (column : Column) (count : ℕ) (is : IsAsked dataset.schema below column)
+      → read_query query ≡ Ok below → Counts dataset below column is.place count → (found : Option Content) → content_at world dir ≡ found
+      → There dataset ≡ found_by dir found → counted (asked_of dir query (found_by dir found)) found ≡ Ok count
+  counted_by query below dataset column count is read counts None at e = absurd (cc)
+  counted_by query below dataset column count is read counts (Some content) at e =
+      let same : dataset ≡ dataset_in dir content = cc in
+      let schema : dataset.schema ≡ content.schema = ap (λ (d : Dataset). d.schema) same in
+      let in_schema : slice_get content.schema is.place ≡ Some column = subst (λ (s : List Column). slice_get s is.place ≡ Some column) schema is.in_schema in
+      let there : HasParts m dataset column is.place content.parts =
+      subst (λ (d : Dataset). HasParts m d column is.place content.parts) (sym same) (parts_there content column is.place at in_schema is.whole) in
+      let count_is : count ≡ length (filter (holds (clause_of below) dataset.schema) (records_of content)) =
+      counts content.parts there ∙ parts_pass dataset.schema below column is content.parts
+      ∙ sym (length-filter (holds (clause_of below) dataset.schema) (records_of content)) in
+      ap (λ (f : Found). counted (asked_of dir query f) (Some content)) (sym e)
+      ∙ ap (λ (r : Result Below Status). counted r (Some content)) (asked_there dir query dataset below read ∙ is.resolves)
+      ∙ ap (λ (s : List Column). Ok (length (filter (holds (clause_of below) s) (records_of content)))) (sym schema) ∙ ap Ok (sym count_is)
 
-  answer_there : (d : Dataset) → count_result dir query (Some d) ≡ (resolved d.schema clause >>= (λ known. Ok (hits known d)))
-  unfolding count_result
-  answer_there d = rw read refl
+  counted_in : (query : List ℕ) (below : Below) (dataset : Dataset) (column : Column) (count : ℕ) (is : IsAsked dataset.schema below column)
+      → read_query query ≡ Ok below → IsFound m dir (There dataset) → Counts dataset below column is.place count → IsCountIn dir query world count
+  counted_in query below dataset column count is read told counts =
+      counted_by query below dataset column count is read counts (content_at world dir) refl (found_is m world dir (There dataset) stands path told)
 
-  absent : (result : Result ℕ Status) → file_at m (catalog_name dir) ≡ None → Finds m dir clause result → result ≡ count_result dir query None
-  absent result none (NotOpened status (NoCatalog there is) e) = e ∙ ap Err is ∙ sym answer_absent
-  absent result none (NotOpened status (NoText bytes there other is) e) = let bad : None ≡ Some bytes = sym none ∙ there in cc
-  absent result none (Counted catalog opened e) = let bad : None ≡ Some (catalog_text catalog) = sym none ∙ opened.there in cc
+  -- a refusal is the world's: no file is damaged
+  refused_by : (query : List ℕ) (found : Found) (status : Status) (r : Result Below Status) → asked_of dir query found ≡ r → IfOk r (λ below. IsFound m dir found)
+      → CountsBy (Some m) found r (Err status) → r ≡ Err status
+  refused_by query found status (Err s) e told h = let same : s ≡ status = cc in ap Err same
+  refused_by query Absent status (Ok below) e told h = absurd h.2
+  refused_by query (Broken damage) status (Ok below) e told h = absurd h.2
+  refused_by query (There dataset) status (Ok below) e told h = absurd (columns_undamaged m world dir below.name dataset h.0 stands path told h.2)
 
-  there : (result : Result ℕ Status) (d : Dataset) → IsDataset d → Rests m dir d → Finds m dir clause result → result ≡ count_result dir query (Some d)
-  there result d valid rests (NotOpened status (NoCatalog none is) e) = let bad : None ≡ Some (catalog_text (catalog_data d)) = sym none ∙ rests.catalog in cc
-  there result d valid rests (NotOpened status (NoText bytes at other is) e) =
-      let same : catalog_text (catalog_data d) ≡ bytes = some_same (sym rests.catalog ∙ at) in
-      absurd (other (catalog_data d) (dataset_loaded d valid) same)
-  there result d valid rests (Counted catalog opened e) =
-      let same : catalog_text catalog ≡ catalog_text (catalog_data d) = some_same (sym opened.there ∙ rests.catalog) in
-      let is : catalog ≡ catalog_data d =
-      catalog_text-injective catalog (catalog_data d) (valid_loaded catalog opened.loaded) (valid_loaded (catalog_data d) (dataset_loaded d valid)) same in
-      e ∙ ap (count_in m dir clause) is ∙ count_known m dir d valid rests (resolved d.schema clause) ∙ sym (answer_there d)
+  refused_read : (query : List ℕ) (status : Status) (read : Result Below QueryKind) → read_query query ≡ read → (h : CountComes dir query (Some m) (Err status))
+      → asked_of dir query (found_in world dir) ≡ Err status
+  refused_read query status (Err kind) e h =
+      let asked : asked_of dir query h.found ≡ Err (BadQuery kind) = asked_refused dir query h.found kind e in
+      let same : status ≡ BadQuery kind =
+      err_same (Some m) h.found status (BadQuery kind) (subst (λ (r : Result Below Status). CountsBy (Some m) h.found r (Err status)) asked h.counts) in
+      asked_refused dir query (found_in world dir) kind e ∙ ap Err (sym same)
+  refused_read query status (Ok below) e h =
+      let told : IsFound m dir h.found = subst (λ (r : Result Below QueryKind). IfOk r (λ (b : Below). IsFound m dir h.found)) e h.told in
+      ap (asked_of dir query) (sym (found_is m world dir h.found stands path told))
+      ∙ refused_by query h.found status (asked_of dir query h.found) refl (whenever (asked_of dir query h.found) told) h.counts
+    where
+      whenever : (r : Result Below Status) → IsFound m dir h.found → IfOk r (λ (b : Below). IsFound m dir h.found)
+      whenever (Ok b) x = x
+      whenever (Err s) x = tt
 
-count_of : (m : Files) (w : World) (dir query : List ℕ) (result : Result ℕ Status) (r : Result Clause QueryKind) → IsPath dir → Stands m w
-    → read_query query ≡ r → Asks r dir (Some m) result → (found : Option Dataset) → dataset_at w dir ≡ found → result ≡ count_result dir query found
-count_of m w dir query result (Err kind) proper h read asked found at = asked ∙ sym (refused_query dir query kind found read)
-count_of m w dir query result (Ok clause) proper h read asked None at = absent m dir clause query read result (h.free dir proper at) asked.1
-count_of m w dir query result (Ok clause) proper h read asked (Some d) at = there m dir clause query read result d (h.valid dir d at) (h.rests dir d at) asked.1
+  pub count_refused : (query : List ℕ) (status : Status) → CountComes dir query (Some m) (Err status)
+      → counted (asked_of dir query (found_in world dir)) (content_at world dir) ≡ Err status
+  count_refused query status h =
+      ap (λ (r : Result Below Status). counted r (content_at world dir)) (refused_read query status (read_query query) refl h)
 
--- the answer over files that stand for a world is the world's
-pub count_is : (m : Files) (w : World) (dir query : List ℕ) (result : Result ℕ Status) → IsPath dir → Stands m w → Comes dir query (Some m) result
-    → result ≡ count_result dir query (dataset_at w dir)
-count_is m w dir query result proper h comes = count_of m w dir query result (read_query query) proper h refl comes (dataset_at w dir) refl
+  pub list_is : (result : Result (List ℕ) Status) → ListComes dir (Some m) result → list_result dir (found_in world dir) ≡ result
+  list_is result h = ap (list_result dir) (sym (found_is m world dir h.found stands path h.told)) ∙ h.is
+
+-- the count of a question is that of the world's records
+pub counts_records : (dir query text : List ℕ) (files after : Option Files) (below : Below) (dataset : Dataset) (column : Column) (result : Result ℕ Stop)
+    → text ≡ query → read_query text ≡ Ok below → IsPath dir → Finds dir files (Ok dataset) → after ≡ files → IsAsked dataset.schema below column
+    → ((m : Files) (col : ℕ) (parts : List Partition) → after ≡ Some m → HasParts m dataset column col parts
+    → IfOk result (λ hits. hits ≡ passing below.limit (cells_in_parts col parts)))
+    → CountsRecords dir query files result
+counts_records dir query text None after below dataset column result same given path finds kept is counts world stands = absurd stands
+counts_records dir query text (Some m) after below dataset column (Err stop) same given path finds kept is counts world stands = tt
+counts_records dir query text (Some m) after below dataset column (Ok count) same given path finds kept is counts world stands =
+    counted_in m world dir stands path query below dataset column count is
+    (subst (λ (t : List ℕ). read_query t ≡ Ok below) same given)
+    (subst (λ (f : Found). IsFound m dir f) (is_there dir finds.found dataset finds.is) finds.told)
+    (λ parts has. counts m is.place parts kept has)

@@ -1,4 +1,5 @@
 pub mod Query
 pub mod Count
-pub mod Found
+pub mod Listing
 pub mod Steps
+pub mod Rows

@@ -1,16 +1,19 @@
--- The clause of a query, and the names in it.
-use Rattle.std.specs.Prelude.{ℕ, List, [], ◌∷◌, Option, Some, None, Result, Ok, Err}
-use Rattle.std.specs.List.{find, flat_map}
-use Rattle.std.specs.Option.{is_none}
+-- The clause of a query, and the columns that it names.
+use Rattle.std.specs.Prelude.{ℕ, List, Option, Some, None, Result, Ok, Err, is_some, slice_get, if◌then◌else◌}
 use Rattle.fb_types.specs.declared.schemas.Column.{Column}
 use Rattle.fb_types.specs.Schemas.{place_of}
+use Rattle.fb_types.specs.Types.{ends_of}
+use Rattle.where_grammar.specs.declared.clause.Atom.{Atom}
+use Rattle.where_grammar.specs.declared.clause.Atom.TheVariants as atom
 use Rattle.where_grammar.specs.declared.clause.Clause.{Clause}
+use Rattle.where_grammar.specs.declared.clause.Clause.TheVariants.{One}
+use Rattle.where_grammar.specs.declared.clause.Clause.TheViews.{out-Clause}
+use Rattle.where_grammar.specs.declared.clause.Op.TheVariants.{Less}
 use Rattle.where_grammar.specs.declared.clause.Clause.TheOpen.{Clause-F}
-use Rattle.where_grammar.specs.declared.clause.Clause.TheFolds.{fold-Clause}
 use Rattle.where_grammar.specs.declared.clause.QueryKind.{QueryKind}
-use Rattle.where_grammar.specs.declared.clause.QueryKind.TheVariants.{Syntax, Unknown}
-use Rattle.where_grammar.specs.Holds.{column_of}
+use Rattle.where_grammar.specs.declared.clause.QueryKind.TheVariants.{Syntax, Unknown, WrongType}
 use Rattle.where_grammar.specs.Language.{after_where, read_where}
+use Rattle.ibis.specs.declared.query.Below.{Below}
 use Rattle.statuses.specs.declared.Status.{Status}
 use Rattle.statuses.specs.declared.Status.TheVariants.{BadQuery}
 
@@ -20,33 +23,43 @@ abbrev pub clause_behind : Option (List ℕ) → Result Clause QueryKind
 clause_behind None = Err Syntax
 clause_behind (Some rest) = read_where rest
 
-abbrev pub read_query : List ℕ → Result Clause QueryKind
-read_query text = clause_behind (after_where text)
+-- as yet a question has one form, `NAME < NUMBER`: the name and the number are asked
+abbrev pub less_than : Atom → Result Below QueryKind
+less_than (atom.Compare name Less value) = Ok (record { name = name; limit = value })
+less_than _ = Err Syntax
 
-abbrev pub clause_or_refusal : Result Clause QueryKind → Result Clause Status
-clause_or_refusal (Ok clause) = Ok clause
-clause_or_refusal (Err kind) = Err (BadQuery kind)
+abbrev pub less_alone : Clause-F Clause → Result Below QueryKind
+less_alone (Clause-F.Or parts) = Err Syntax
+less_alone (Clause-F.Xor parts) = Err Syntax
+less_alone (Clause-F.And parts) = Err Syntax
+less_alone (Clause-F.Not part) = Err Syntax
+less_alone (Clause-F.One condition) = less_than condition
 
--- ---- the columns that a clause names, from left to right
+abbrev pub asked : Result Clause QueryKind → Result Below QueryKind
+asked (Ok clause) = less_alone (out-Clause clause)
+asked (Err kind) = Err kind
 
-abbrev pub names_by_parts : Clause-F (List (List ℕ)) → List (List ℕ)
-names_by_parts (Clause-F.Or parts) = flat_map (λ part. part) parts
-names_by_parts (Clause-F.Xor parts) = flat_map (λ part. part) parts
-names_by_parts (Clause-F.And parts) = flat_map (λ part. part) parts
-names_by_parts (Clause-F.Not part) = part
-names_by_parts (Clause-F.One condition) = column_of condition ∷ []
+-- what a query asks, or the first refusal of its text
+abbrev pub read_query : List ℕ → Result Below QueryKind
+read_query text = asked (clause_behind (after_where text))
 
-abbrev pub names_in : Clause → List (List ℕ)
-names_in clause = fold-Clause (List (List ℕ)) names_by_parts clause
+-- the clause that it is
+abbrev pub clause_of : Below → Clause
+clause_of below = One (atom.Compare below.name Less below.limit)
 
--- the first of them that the schema hasn't
-abbrev pub first_unknown : List Column → Clause → Option (List ℕ)
-first_unknown schema clause = find (λ name. is_none (place_of schema name)) (names_in clause)
+abbrev pub query_or_refusal : Result Below QueryKind → Result Below Status
+query_or_refusal (Ok below) = Ok below
+query_or_refusal (Err kind) = Err (BadQuery kind)
 
-abbrev pub known_or_refusal : Clause → Option (List ℕ) → Result Clause Status
-known_or_refusal clause None = Ok clause
-known_or_refusal clause (Some name) = Err (BadQuery (Unknown name))
+-- ---- its name, in a schema: a number is compared with those of a whole column
 
--- the clause, where the schema has all of its columns
-abbrev pub resolved : List Column → Clause → Result Clause Status
-resolved schema clause = known_or_refusal clause (first_unknown schema clause)
+abbrev pub typed_or_refusal : Below → Option Column → Result Below Status
+typed_or_refusal below None = Err (BadQuery (Unknown below.name))
+typed_or_refusal below (Some column) = if is_some (ends_of column.ty) then Ok below else Err (BadQuery (WrongType below.name))
+
+abbrev pub column_in : List Column → Option ℕ → Option Column
+column_in schema None = None
+column_in schema (Some place) = slice_get schema place
+
+abbrev pub resolved : List Column → Below → Result Below Status
+resolved schema below = typed_or_refusal below (column_in schema (place_of schema below.name))

@@ -1,59 +1,82 @@
--- What the steps of a question give, in the words of what it comes to.
-use Rattle.std.specs.Prelude.{◌≡◌, ⊤, ℕ, ℤ, Bool, true, false, ◌==◌, ◌&&◌, List, [], ◌∷◌, Option, IfSome, Result, Err}
-use Rattle.fb_outside.specs.Files.{Files, file_at}
+-- What the steps of a command give, in the words of what it comes to.
+use Rattle.std.specs.Prelude.{◌≡◌, ⊤, ℕ, List, Option, Some, None, IfSome, IsSome, Result, Ok, Err, slice_get}
+use Rattle.std.specs.Borrow.{Bor}
+use Rattle.fb_outside.specs.Files.{Files}
 use Rattle.fb_types.specs.declared.schemas.Column.{Column}
-use Rattle.where_grammar.specs.declared.clause.Atom.TheVariants.{Compare}
-use Rattle.where_grammar.specs.declared.clause.Clause.{Clause}
-use Rattle.where_grammar.specs.declared.clause.Clause.TheVariants.{One}
+use Rattle.fb_types.specs.Schemas.{place_of}
+use Rattle.fb_types.specs.Types.{ends_of}
+use Rattle.where_grammar.specs.declared.clause.ClauseFault.{ClauseFault}
+use Rattle.where_grammar.specs.declared.clause.ClauseFault.TheVariants as text
 use Rattle.where_grammar.specs.declared.clause.QueryKind.{QueryKind}
-use Rattle.where_grammar.specs.Holds.{compares}
-use Rattle.part_meta.specs.declared.catalog.Catalog.{Catalog}
-use Rattle.world.specs.World.{is_int}
+use Rattle.where_grammar.specs.declared.clause.QueryKind.TheVariants.{Syntax, Unknown, WrongType}
+use Rattle.dataset.specs.Damage.{Damage, IsColumnDamaged}
+use Rattle.dataset.specs.Found.{Found, IsFound}
+use Rattle.dataset.specs.declared.content.Dataset.{Dataset}
+use Rattle.dataset.specs.declared.fault.PartFault.{PartFault}
+use Rattle.dataset.specs.declared.fault.PartFault.TheVariants as part
+use Rattle.statuses.specs.declared.Status.{Status}
 use Rattle.statuses.specs.declared.Status.TheVariants.{BadQuery}
 use Rattle.statuses.specs.declared.stop.Stop.{Stop}
 use Rattle.statuses.specs.declared.stop.Stop.TheVariants.{Refused, ReadFault, StoreFault, OutOfMemory}
-use Rattle.ibis.specs.declared.query.Comparison.{Comparison}
-use Rattle.ibis.specs.Query.{read_query}
-use Rattle.ibis.specs.Found.{Gives, Unopened, count_in, is_of_files, passing_in}
+use Rattle.ibis.specs.declared.query.Below.{Below}
+use Rattle.ibis.specs.declared.query.NameFault.{NameFault}
+use Rattle.ibis.specs.declared.query.NameFault.TheVariants as fault
+use Rattle.ibis.specs.Count.{damaged_status, dataset_or_refusal}
+use Rattle.ibis.specs.Query.{resolved}
 
-abbrev pub clause_of_comparison : Comparison → Clause
-clause_of_comparison c = One (Compare c.name c.op c.limit)
+-- ---- the query's text
 
-abbrev pub meets : Comparison → ℤ → Bool
-meets c number = compares c.op number c.limit
+abbrev pub asked_as : Option Below → Result Below QueryKind
+asked_as None = Err Syntax
+asked_as (Some below) = Ok below
 
--- the text is refused, whatever the files
-abbrev pub StopsAtText : List ℕ → Stop → Type 0
-StopsAtText text (Refused status) = (kind : QueryKind) × (status ≡ BadQuery kind) × (read_query text ≡ Err kind)
-StopsAtText text ReadFault = ⊥
-StopsAtText text StoreFault = ⊥
-StopsAtText text OutOfMemory = ⊤
+abbrev pub stop_of_text : ClauseFault → Stop
+stop_of_text (text.Bad kind) = Refused (BadQuery kind)
+stop_of_text text.OutOfMemory = OutOfMemory
 
--- `IsLoaded` as a test
-abbrev pub is_one_int : List Column → Bool
-is_one_int (column ∷ []) = is_int column.ty
-is_one_int _ = false
+-- ---- the dataset
 
-abbrev pub at_most_part_0 : ℕ → List ℕ → Bool
-at_most_part_0 next [] = next == 0
-at_most_part_0 next (part ∷ []) = next == 1 && part == 0
-at_most_part_0 next (part ∷ another ∷ parts) = false
+-- what the path has is a dataset, or refused
+pub record Opened (dir : List ℕ) (files : Option Files) (result : Result Dataset Status) : Type 0 where
+  pub found : Found
+  pub told : IfSome files (λ m. IsFound m dir found)
+  pub is : dataset_or_refusal dir found ≡ result
 
-abbrev pub is_loaded : Catalog → Bool
-is_loaded catalog = is_one_int catalog.schema && at_most_part_0 catalog.next catalog.parts
+abbrev pub Finds : List ℕ → Option Files → Result Dataset Stop → Type 0
+Finds dir files (Ok dataset) = Opened dir files (Ok dataset)
+Finds dir files (Err (Refused status)) = Opened dir files (Err status)
+Finds dir files (Err ReadFault) = ⊥
+Finds dir files (Err StoreFault) = ⊤
+Finds dir files (Err OutOfMemory) = ⊤
 
-abbrev pub StopsOpening : Option Files → List ℕ → Stop → Type 0
-StopsOpening files dir (Refused status) = (is_of_files (Err status) ≡ true) × IfSome files (λ m. Unopened m dir status)
-StopsOpening files dir ReadFault = ⊥
-StopsOpening files dir StoreFault = ⊤
-StopsOpening files dir OutOfMemory = ⊤
+-- ---- the column
 
--- how many numbers of a file pass
-abbrev pub PassesIn : List ℕ → (ℤ → Bool) → Option Files → Result ℕ Stop → Type 0
-PassesIn file test files result =
-    Gives (λ r. (is_of_files r ≡ true) × IfSome files (λ m. r ≡ passing_in file test (file_at m file))) result
+-- the schema has this column, of whole numbers, under the name
+pub record IsAsked (schema : List Column) (below : Below) (column : Column) : Type 0 where
+  pub place : ℕ
+  pub first : place_of schema below.name ≡ Some place
+  pub in_schema : slice_get schema place ≡ Some column
+  pub named : column.name ≡ below.name
+  pub whole : IsSome (ends_of column.ty)
+  pub resolves : resolved schema below ≡ Ok below
 
--- how many records of a catalog's dataset the clause holds on
-abbrev pub Counts : Option Files → List ℕ → Clause → Catalog → Result ℕ Stop → Type 0
-Counts files dir clause catalog result =
-    Gives (λ r. (is_of_files r ≡ true) × IfSome files (λ m. r ≡ count_in m dir clause catalog)) result
+abbrev pub Resolves : List Column → Below → Result (Bor Column) NameFault → Type 0
+Resolves schema below (Ok column) = IsAsked schema below column.now
+Resolves schema below (Err fault.Unknown) = resolved schema below ≡ Err (BadQuery (Unknown below.name))
+Resolves schema below (Err fault.WrongType) = resolved schema below ≡ Err (BadQuery (WrongType below.name))
+
+-- ---- the column's files
+
+abbrev pub stop_of_part : PartFault → Stop
+stop_of_part (part.Damaged file kind want have) =
+    Refused (damaged_status (record { file = file; kind = kind; want = want; have = have }))
+stop_of_part part.Store = StoreFault
+stop_of_part part.OutOfMemory = OutOfMemory
+
+-- a column of that name is damaged in a part of the dataset, or the outside failed, or memory ran out
+abbrev pub StopsIn : Option Files → Dataset → List ℕ → Stop → Type 0
+StopsIn files dataset name (Refused status) =
+    (damage : Damage) × (status ≡ damaged_status damage) × IfSome files (λ m. IsColumnDamaged m dataset name damage)
+StopsIn files dataset name ReadFault = ⊥
+StopsIn files dataset name StoreFault = ⊤
+StopsIn files dataset name OutOfMemory = ⊤

@@ -1,60 +1,133 @@
-//! The comparison that a query asks for.
+//! What a query asks, and the column that it names.
 
-ghost use Rattle.std.specs.Prelude.{◌≡◌, Ok, IfOk, IfErr};
-ghost use Rattle.ibis.specs.Query.{read_query};
-ghost use Rattle.ibis.specs.Steps.{StopsAtText, clause_of_comparison, meets};
+ghost use Rattle.std.specs.Prelude.{◌≡◌, Ok, IsSome, is_some};
+ghost use Rattle.std.specs.Option.{option_copied};
+ghost use Rattle.fb_types.specs.Schemas.{place_of};
+ghost use Rattle.fb_types.specs.Types.{ends_of};
+ghost use Rattle.answers.specs.Answers.{Answers};
+ghost use Rattle.where_grammar.specs.Language.{refusal};
+ghost use Rattle.ibis.specs.Query.{asked, column_in, less_than, read_query};
+ghost use Rattle.ibis.specs.Steps.{Resolves, asked_as, stop_of_text};
 
-use fb_types::ColName;
+use fb_types::{ColName, ColType, Column, Schema};
 use statuses::{Status, Stop};
 use std::alloc::Global;
 use where_grammar::{Atom, Clause, ClauseFault, Op, QueryKind, after_where, parse_where};
 
-/// A column's number stands so to a limit.
+/// The numbers of a column that are less than a limit are asked for.
 #[derive(Debug, Drop)]
-pub(crate) struct Comparison {
-    pub(crate) name: ColName,
-    pub(crate) op: Op,
-    pub(crate) limit: i128,
+pub struct Below {
+    pub name: ColName,
+    pub limit: i128,
 }
 
-impl Comparison {
-    /// Whether a number stands so to the limit.
-    pub(crate) fn meets(&self, number: i128) -> bool
-        ensures { result ≡ meets self.now number }
-    {
-        match self.op {
-            Op::Less => number < self.limit,
-            Op::LessEq => number <= self.limit,
-            Op::Greater => number > self.limit,
-            Op::GreaterEq => number >= self.limit,
-            Op::Equal => number == self.limit,
-            Op::Differs => number != self.limit,
-        }
+/// What the condition asks, as yet by `<` alone.
+fn less_than(condition: Atom) -> Option<Below>
+    ensures { asked_as result ≡ less_than condition }
+{
+    match condition {
+        Atom::Compare { name, op, value } => match op {
+            Op::Less => Some(Below { name, limit: value }),
+            _ => None,
+        },
+        Atom::Double { .. } => None,
+        Atom::Between { .. } => None,
+        Atom::Numbers { .. } => None,
+        Atom::Same { .. } => None,
+        Atom::Other { .. } => None,
+        Atom::Texts { .. } => None,
+        Atom::Like { .. } => None,
+        Atom::Exists { .. } => None,
     }
 }
 
-/// The comparison that the query's text spells.
-pub(crate) fn comparison_of(alloc: Global, text: &str) -> Result<Comparison, Stop>
-    ensures ok { IfOk result (λ c. read_query text.now ≡ Ok (clause_of_comparison c)) }
-    ensures stop { IfErr result (StopsAtText text.now) }
+/// What the clause asks.
+fn asked_of(clause: Clause) -> Option<Below>
+    ensures { asked_as result ≡ asked (Ok clause) }
+{
+    match clause {
+        Clause::Or(_) => None,
+        Clause::Xor(_) => None,
+        Clause::And(_) => None,
+        Clause::Not(_) => None,
+        Clause::One(condition) => less_than(condition),
+    }
+}
+
+/// What the query's text asks.
+pub(crate) fn below_of(alloc: Global, text: &str) -> Result<Below, ClauseFault>
+    ensures { Answers refusal result (read_query text.now) }
 {
     let Some(rest) = after_where(text) else {
-        return Err(bad_query(QueryKind::Syntax));
+        return Err(syntax());
     };
     match parse_where(alloc, rest) {
-        Ok(Clause::One(Atom::Compare { name, op, value })) => Ok(Comparison {
-            name,
-            op,
-            limit: value,
-        }),
-        Ok(_) => unreachable!(),
-        Err(ClauseFault::Bad { kind }) => Err(bad_query(kind)),
-        Err(ClauseFault::OutOfMemory) => Err(Stop::OutOfMemory),
+        Ok(clause) => match asked_of(clause) {
+            Some(below) => Ok(below),
+            None => Err(syntax()),
+        },
+        Err(fault) => Err(fault),
     }
 }
 
-fn bad_query(kind: QueryKind) -> Stop
+fn syntax() -> ClauseFault
+    ensures { result ≡ ClauseFault.Bad QueryKind.Syntax }
+{
+    ClauseFault::Bad {
+        kind: QueryKind::Syntax,
+    }
+}
+
+/// The answer to a query that isn't read.
+pub(crate) fn stop_of_text(fault: ClauseFault) -> Stop
+    ensures { result ≡ stop_of_text fault }
+{
+    match fault {
+        ClauseFault::Bad { kind } => bad_query(kind),
+        ClauseFault::OutOfMemory => Stop::OutOfMemory,
+    }
+}
+
+pub(crate) fn bad_query(kind: QueryKind) -> Stop
     ensures { result ≡ Stop.Refused (Status.BadQuery kind) }
 {
     Stop::Refused(Status::BadQuery { kind })
+}
+
+/// Why no column is asked for.
+#[derive(Debug, Drop)]
+pub(crate) enum NameFault {
+    Unknown,
+    WrongType,
+}
+
+/// The column whose numbers are asked for.
+pub(crate) fn resolve<'a>(schema: &'a Schema, below: &Below) -> Result<&'a Column, NameFault>
+    ensures { Resolves schema.now below.now result }
+{
+    match column_named(schema, below.name.bytes()) {
+        Some(column) => {
+            if is_whole(column.ty) {
+                Ok(column)
+            } else {
+                Err(NameFault::WrongType)
+            }
+        }
+        None => Err(NameFault::Unknown),
+    }
+}
+
+fn column_named<'a>(schema: &'a Schema, name: &[u8]) -> Option<&'a Column>
+    ensures { option_copied result ≡ column_in schema.now (place_of schema.now name.now) }
+{
+    match schema.place(name) {
+        Some(place) => schema.columns().get(place),
+        None => None,
+    }
+}
+
+fn is_whole(ty: ColType) -> bool
+    ensures { result ≡ is_some (ends_of ty) }
+{
+    ty.ends().is_some()
 }

@@ -8,7 +8,7 @@ use Rattle.index_spec.specs.declared.options.Value.{Value}
 use Rattle.index_spec.specs.declared.options.Value.TheVariants as v
 use Rattle.index_spec.specs.declared.options.Setting.{Setting}
 use Rattle.index_spec.specs.Options.{numbers_at, value_at, setting_at, settings_before, after_end, ended_or, settings_within, settings_of}
-use Rattle.index_spec.proofs.Cases.{mapped}
+use Rattle.lexing.proofs.Cases.{mapped}
 
 -- a list of numbers has tokens
 numbers_at_shorter : (ts : List Token) (found : List ℤ × List Token) → numbers_at ts ≡ Some found → length found.1 < length ts

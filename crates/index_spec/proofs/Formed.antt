@@ -15,7 +15,7 @@ use Rattle.index_spec.specs.declared.options.Setting.{Setting}
 use Rattle.index_spec.specs.declared.options.Form.{Form}
 use Rattle.index_spec.specs.Words.{same_word}
 use Rattle.index_spec.specs.Options.{separated, value_tokens, setting_tokens, element_tokens, plain, IsElement, IsForm, numbers_at, value_at, setting_at, settings_before, after_end, ended_or, settings_within, settings_of, element_at, whole, form_of}
-use Rattle.index_spec.proofs.Cases.{chosen, mapped, chained}
+use Rattle.lexing.proofs.Cases.{chosen, mapped, chained}
 
 -- ---- what is read is written so
 

@@ -13,8 +13,9 @@ use Rattle.index_spec.specs.declared.spec.SpecFault.TheVariants as fault
 use Rattle.index_spec.specs.Tokens.{tokens_of, Spells}
 use Rattle.index_spec.specs.Options.{form_of, IsForm}
 use Rattle.index_spec.specs.Meaning.{meaning, verdict, checked, draft, repeats, any_outside, is_counted, is_bounded}
-use Rattle.index_spec.specs.Language.{IsSpelledBy, answer_by, spec_of, Gives, IsToldByText}
-use Rattle.index_spec.proofs.Cases.{chained}
+use Rattle.answers.specs.Answers.{Answers}
+use Rattle.index_spec.specs.Language.{IsSpelledBy, answer_by, spec_of, IsToldByText, refusal}
+use Rattle.lexing.proofs.Cases.{chained}
 use Rattle.index_spec.proofs.Spelled.{tokens_of-spelled}
 use Rattle.index_spec.proofs.Reread.{spelled-tokens_of}
 use Rattle.index_spec.proofs.Formed.{form_of-formed}
@@ -72,8 +73,8 @@ spelled-spec_of text s e = by_length text (nat_lt 131072 (length text)) s refl e
 
 -- ---- the clauses of a call that gives the answer
 
-pub gives_along : (r : Result Spec SpecFault) (a b : Result Spec SpecKind) → Gives r a → a ≡ b → Gives r b
-gives_along r a b gives e = subst (Gives r) e gives
+pub gives_along : (r : Result Spec SpecFault) (a b : Result Spec SpecKind) → Answers refusal r a → a ≡ b → Answers refusal r b
+gives_along r a b gives e = subst (Answers refusal r) e gives
 
 -- ---- which refusals come
 

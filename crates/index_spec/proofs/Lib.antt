@@ -1,9 +1,4 @@
-pub mod Cases
-pub mod Numbers
-pub mod Shorter
-pub mod Lexing
 pub mod Elements
-pub mod Runs
 pub mod Spelled
 pub mod Reread
 pub mod Formed
@@ -15,3 +10,4 @@ pub mod Retold
 pub mod Laws
 pub mod Put
 pub mod Again
+pub mod MembersLemmas

@@ -3,8 +3,8 @@ use Rattle.std.proofs.Common.{◌≡◌, ℕ, zero, suc, ◌+◌, ◌≤◌, ◌
 use Rattle.std.specs.Prelude.{Some, ◌↔◌}
 use Rattle.std.specs.List.{Contains, list_all, list_any, find, count_by}
 use Rattle.std.proofs.lemmas.List.Sums.{sum_by-cons}
-use Rattle.index_spec.proofs.Cases.{chosen}
-use Rattle.index_spec.proofs.Runs.{and_parts, and_both}
+use Rattle.lexing.proofs.Cases.{chosen}
+use Rattle.std.proofs.lemmas.Bool.{and_from, and_parts, or_cases}
 
 pub nowhere : {X : Type 0} (x : X) → Contains [] x → ⊥
 nowhere x h = omega (arith, h.1)
@@ -33,10 +33,6 @@ pub or_right : (a b : Bool) → b ≡ true → (a || b) ≡ true
 or_right true b e = refl
 or_right false b e = e
 
-pub or_cases : (a b : Bool) → (a || b) ≡ true → (a ≡ true) ⊎ (b ≡ true)
-or_cases true b e = inl refl
-or_cases false b e = inr e
-
 pub all_of : {X : Type 0} (p : X → Bool) (xs : List X) (x : X) → list_all p xs ≡ true → Contains xs x → p x ≡ true
 all_of p [] x all h = absurd (nowhere x h)
 all_of p (y ∷ ys) x all h =
@@ -45,7 +41,7 @@ all_of p (y ∷ ys) x all h =
 
 pub all_if : {X : Type 0} (p : X → Bool) (xs : List X) → ((x : X) → Contains xs x → p x ≡ true) → list_all p xs ≡ true
 all_if p [] each = refl
-all_if p (y ∷ ys) each = and_both (p y) (list_all p ys) (each y (here y ys)) (all_if p ys (λ x h. each x (later y ys x h)))
+all_if p (y ∷ ys) each = and_from (p y) (list_all p ys) (each y (here y ys)) (all_if p ys (λ x h. each x (later y ys x h)))
 
 pub any_if : {X : Type 0} (p : X → Bool) (xs : List X) (x : X) → Contains xs x → p x ≡ true → list_any p xs ≡ true
 any_if p [] x h e = absurd (nowhere x h)

@@ -1,34 +1,37 @@
 -- Tokens put before a text that is spelled.
-use Rattle.std.proofs.Common.{◌≡◌, ℕ, suc, ◌^◌, ◌≤◌, ◌<◌, min, Bool, true, false, List, [], ◌∷◌, ◌++◌, length, refl, sym, ap, subst, ◌∙◌, append_assoc, arith, rules, ℤ, pos, negsuc}
-use Rattle.std.specs.List.{list_all}
+use Rattle.std.proofs.Common.{◌≡◌, ℕ, suc, ◌^◌, ◌≤◌, ◌<◌, Bool, true, false, List, [], ◌∷◌, ◌++◌, length, refl, sym, ap, subst, ◌∙◌, append_assoc, arith, ℤ, pos, negsuc}
 use Rattle.std.specs.Char.{is_ascii_digit}
 use Rattle.std.specs.Fmt.{decimal, signed_decimal}
-use Rattle.std.proofs.lemmas.Str.Parse.{IsNumeralModel, numerals_by_fold}
-use Rattle.std.proofs.lemmas.Fmt.{digits_decimal, digits_value-decimal, decimal_nonempty, length-decimal-le}
+use Rattle.std.proofs.lemmas.Fmt.{length-decimal-le}
 use Rattle.std.proofs.lemmas.Int.{ints}
 use Rattle.index_spec.specs.declared.token.Token.{Token}
 use Rattle.index_spec.specs.declared.token.Token.TheVariants as t
-use Rattle.index_spec.specs.Tokens.{minus, value_from, magnitude, signed, IsNumeral, IsWritten, StopsAt, EndsAt, Spells}
+use Rattle.lexing.specs.Blanks.{StopsAt}
+use Rattle.lexing.specs.Tokens as lexing
+use Rattle.index_spec.specs.Tokens.{minus, magnitude, IsNumeral, IsWritten, EndsAt, IsToken, Spells}
 use Rattle.index_spec.specs.Language.{IsInRange}
-use Rattle.index_spec.proofs.Spelled.{blank_before}
+use Rattle.lexing.specs.Digits.{signed}
+use Rattle.lexing.proofs.DigitLemmas.{natural_of-decimal}
+use Rattle.lexing.proofs.Laws.{blank_before, token_before}
+
+-- the size of the whole text decides nothing here
+sized : (m n : ℕ) (text : List ℕ) (ts : List Token) → lexing.Spells IsToken m text ts → lexing.Spells IsToken n text ts
+sized m n text [] spells = spells
+sized m n text (token ∷ ts) spells =
+    let at = spells.1.0 in
+    (spells.0, (record { blanks = at.blanks; behind = at.behind; cut = at.cut; all_blank = at.all_blank; here = at.here }, sized m n spells.0 ts spells.1.1))
 
 pub put : (token : Token) (form rest : List ℕ) (ts : List Token) → IsWritten form token → EndsAt token rest → Spells rest ts → Spells (form ++ rest) (token ∷ ts)
-put token form rest ts written ends spells = (rest, (record { blanks = []; form = form; cut = refl; all_blank = refl; written = written; ends = ends }, spells))
+put token form rest ts written ends spells =
+    token_before IsToken (length (form ++ rest)) (form ++ rest) token rest ts (record { form = form; cut = refl; written = written; ends = ends }) (sized (length rest) (length (form ++ rest)) rest ts spells)
 
 pub put_blank : (rest : List ℕ) (ts : List Token) → Spells rest ts → Spells (32 ∷ rest) ts
-put_blank rest ts spells = blank_before 32 rest ts refl spells
-
-abbrev AllDigits : List ℕ → Type 0
-AllDigits digits = list_all is_ascii_digit digits ≡ true
-
-own : IsNumeralModel AllDigits (value_from 0)
-own = numerals_by_fold AllDigits (search rules) value_from (search rules)
+put_blank rest ts spells = blank_before IsToken (length (32 ∷ rest)) 32 rest ts refl (sized (length rest) (length (32 ∷ rest)) rest ts spells)
 
 decimal_is : (is_negative : Bool) (n : ℕ) (z : ℤ) → n < 2 ^ 64 → z ≡ signed is_negative n → IsNumeral (minus is_negative ++ decimal n) z
 decimal_is is_negative n z small e =
-    let value : value_from 0 (decimal n) ≡ n = digits_value-decimal own n small in
-    let capped : magnitude (decimal n) ≡ n = ap (λ m. min m (2 ^ 64)) value ∙ (omega arith) in
-    record { is_negative = is_negative; digits = decimal n; written = refl; all_digits = digits_decimal own n small; some_digit = decimal_nonempty n small; value = e ∙ ap (signed is_negative) (sym capped) }
+    let told : magnitude n ≡ n = omega arith in
+    record { is_negative = is_negative; digits = decimal n; number = n; written = refl; natural = natural_of-decimal n (omega arith); value = e ∙ ap (signed is_negative) (sym told) }
 
 pub number_is : (z : ℤ) → IsInRange z → IsNumeral (signed_decimal z) z
 number_is (pos n) range = let high = range.1 in decimal_is false n (pos n) (omega (arith, ints)) refl

@@ -1,7 +1,6 @@
 -- The tokens that a text spells are those that the function gives.
-use Rattle.std.proofs.Common.{◌≡◌, ℕ, ◌<◌, Bool, true, false, List, [], ◌∷◌, ◌++◌, length, get_or, take, drop, refl, sym, ap, subst, ◌∙◌, eqb, arith}
+use Rattle.std.proofs.Common.{◌≡◌, ℕ, Bool, true, false, List, [], ◌∷◌, ◌++◌, length, get_or, take, drop, refl, sym, ap, subst, ◌∙◌, eqb, arith}
 use Rattle.std.specs.Prelude.{Some}
-use Rattle.std.specs.Option.{option_map}
 use Rattle.std.specs.List.{prefix_len, list_all}
 use Rattle.std.specs.Char.{is_ascii_digit}
 use Rattle.std.proofs.lemmas.List.{take_at, drop_at}
@@ -11,17 +10,19 @@ use Rattle.index_spec.specs.declared.word.Word.TheVariants as w
 use Rattle.index_spec.specs.declared.token.Token.{Token}
 use Rattle.index_spec.specs.declared.token.Token.TheVariants as t
 use Rattle.index_spec.specs.Words.{spelling, word_of}
-use Rattle.index_spec.specs.Tokens.{is_blank, is_letter, in_word, minus, magnitude, signed, word_at, number_at, token_at, tokens_of, IsWritten, StopsAt, EndsAt, Spells}
-use Rattle.index_spec.proofs.Runs.{prefix_len-cut, and_parts}
-use Rattle.index_spec.proofs.Lexing.{tokens_of-blank, tokens_of-some, tokens_of-empty}
+use Rattle.lexing.specs.Blanks.{is_blank, StopsAt}
+use Rattle.lexing.specs.Digits.{natural_of, signed}
+use Rattle.lexing.proofs.DigitLemmas.{natural_at-again, natural_of-some}
+use Rattle.lexing.proofs.Laws as lexing
+use Rattle.lexing.proofs.Laws.{IsComplete, spelled-tokens_from}
+use Rattle.index_spec.specs.Tokens.{is_letter, in_word, minus, magnitude, word_at, number_at, token_at, told, reader, all_or_none, tokens_of, IsWritten, EndsAt, IsToken, Spells}
+use Rattle.index_spec.specs.Shorter.{reader-shorter}
+use Rattle.std.proofs.lemmas.Bool.{and_parts}
+use Rattle.lexing.proofs.Runs.{prefix_len-cut}
 
 -- the token is read at the front, where no blank stands
-pub record Reads (text : List ℕ) (token : Token) (rest : List ℕ) : Type 0 where
-  pub first : ℕ
-  pub others : List ℕ
-  pub cons : text ≡ first ∷ others
-  pub visible : is_blank first ≡ false
-  pub found : token_at (first ∷ others) ≡ Some (token, rest)
+abbrev pub Reads : List ℕ → Token → List ℕ → Type 0
+Reads text token rest = lexing.Reads reader 0 text token rest
 
 -- ---- words
 
@@ -70,18 +71,13 @@ word_reads word rest stops =
     let no_dash : eqb b 45 ≡ false = f.no_dash in
     let letter : is_letter b ≡ true = f.letter in
     let found : token_at (b ∷ bs) ≡ Some (t.Word word, rest) = rw (no_dash, letter) (ap word_at (sym joined) ∙ word_again word rest stops) in
-    record { first = b; others = bs; cons = joined; visible = f.visible; found = found }
+    record { first = b; others = bs; cons = joined; visible = f.visible; found = ap told found }
 
 -- ---- numbers
 
-digits_again : (is_negative : Bool) (digits rest : List ℕ) → list_all is_ascii_digit digits ≡ true → 0 < length digits → StopsAt is_ascii_digit rest → number_at is_negative (digits ++ rest) ≡ Some (t.Number (signed is_negative (magnitude digits)), rest)
+digits_again : (is_negative : Bool) (digits rest : List ℕ) (n : ℕ) → natural_of digits ≡ Some n → StopsAt is_ascii_digit rest → number_at is_negative (digits ++ rest) ≡ Some (t.Number (signed is_negative (magnitude n)), rest)
 unfolding number_at
-digits_again is_negative digits rest all some stops =
-    let n : prefix_len is_ascii_digit (digits ++ rest) ≡ length digits = prefix_len-cut is_ascii_digit digits rest all stops in
-    let front : take (length digits) (digits ++ rest) ≡ digits = take_at digits rest (length digits) refl in
-    let back : drop (length digits) (digits ++ rest) ≡ rest = drop_at digits rest (length digits) refl in
-    let not_none : eqb (length digits) 0 ≡ false = grind (arith, nat_tests) in
-    rw (n, front, back, not_none) refl
+digits_again is_negative digits rest n is stops = rw (natural_at-again digits rest n is stops) refl
 
 record DigitFacts (b : ℕ) : Type 0 where
   visible : is_blank b ≡ false
@@ -91,25 +87,25 @@ record DigitFacts (b : ℕ) : Type 0 where
 digit_facts : (b : ℕ) → is_ascii_digit b ≡ true → DigitFacts b
 digit_facts b e = record { visible = grind (arith, nat_tests); no_dash = grind (arith, nat_tests); no_letter = grind (arith, nat_tests) }
 
-positive_reads : (digits rest : List ℕ) → list_all is_ascii_digit digits ≡ true → 0 < length digits → StopsAt is_ascii_digit rest → Reads (digits ++ rest) (t.Number (signed false (magnitude digits))) rest
+positive_reads : (digits rest : List ℕ) (n : ℕ) → natural_of digits ≡ Some n → StopsAt is_ascii_digit rest → Reads (digits ++ rest) (t.Number (signed false (magnitude n))) rest
 unfolding token_at
-positive_reads [] rest all some stops = absurd (omega arith)
-positive_reads (b ∷ bs) rest all some stops =
-    let digit : is_ascii_digit b ≡ true = (and_parts (is_ascii_digit b) (list_all is_ascii_digit bs) all).0 in
+positive_reads [] rest n is stops = absurd cc
+positive_reads (b ∷ bs) rest n is stops =
+    let digit : is_ascii_digit b ≡ true = (and_parts (is_ascii_digit b) (list_all is_ascii_digit bs) (natural_of-some (b ∷ bs) n is).all).0 in
     let f = digit_facts b digit in
     let no_dash : eqb b 45 ≡ false = f.no_dash in
     let no_letter : is_letter b ≡ false = f.no_letter in
-    let found : token_at (b ∷ (bs ++ rest)) ≡ Some (t.Number (signed false (magnitude (b ∷ bs))), rest) = rw (no_dash, no_letter, digit) (digits_again false (b ∷ bs) rest all some stops) in
-    record { first = b; others = bs ++ rest; cons = refl; visible = f.visible; found = found }
+    let found : token_at (b ∷ (bs ++ rest)) ≡ Some (t.Number (signed false (magnitude n)), rest) = rw (no_dash, no_letter, digit) (digits_again false (b ∷ bs) rest n is stops) in
+    record { first = b; others = bs ++ rest; cons = refl; visible = f.visible; found = ap told found }
 
-negative_reads : (digits rest : List ℕ) → list_all is_ascii_digit digits ≡ true → 0 < length digits → StopsAt is_ascii_digit rest → Reads (45 ∷ (digits ++ rest)) (t.Number (signed true (magnitude digits))) rest
+negative_reads : (digits rest : List ℕ) (n : ℕ) → natural_of digits ≡ Some n → StopsAt is_ascii_digit rest → Reads (45 ∷ (digits ++ rest)) (t.Number (signed true (magnitude n))) rest
 unfolding token_at
-negative_reads digits rest all some stops =
-    record { first = 45; others = digits ++ rest; cons = refl; visible = refl; found = digits_again true digits rest all some stops }
+negative_reads digits rest n is stops =
+    record { first = 45; others = digits ++ rest; cons = refl; visible = refl; found = ap told (digits_again true digits rest n is stops) }
 
-number_reads : (is_negative : Bool) (digits rest : List ℕ) → list_all is_ascii_digit digits ≡ true → 0 < length digits → StopsAt is_ascii_digit rest → Reads ((minus is_negative ++ digits) ++ rest) (t.Number (signed is_negative (magnitude digits))) rest
-number_reads true digits rest all some stops = negative_reads digits rest all some stops
-number_reads false digits rest all some stops = positive_reads digits rest all some stops
+number_reads : (is_negative : Bool) (digits rest : List ℕ) (n : ℕ) → natural_of digits ≡ Some n → StopsAt is_ascii_digit rest → Reads ((minus is_negative ++ digits) ++ rest) (t.Number (signed is_negative (magnitude n))) rest
+number_reads true digits rest n is stops = negative_reads digits rest n is stops
+number_reads false digits rest n is stops = positive_reads digits rest n is stops
 
 -- ---- every token
 
@@ -117,7 +113,7 @@ abbrev pub ReadsForm : List ℕ → List ℕ → Token → Type 0
 ReadsForm rest form token = Reads (form ++ rest) token rest
 
 sign_reads : (b : ℕ) (token : Token) (form rest : List ℕ) → is_blank b ≡ false → token_at (b ∷ rest) ≡ Some (token, rest) → form ≡ b ∷ [] → ReadsForm rest form token
-sign_reads b token form rest visible found e = subst (λ f. ReadsForm rest f token) (sym e) (record { first = b; others = rest; cons = refl; visible = visible; found = found })
+sign_reads b token form rest visible found e = subst (λ f. ReadsForm rest f token) (sym e) (record { first = b; others = rest; cons = refl; visible = visible; found = ap told found })
 
 pub token_reads : (token : Token) (form rest : List ℕ) → IsWritten form token → EndsAt token rest → Reads (form ++ rest) token rest
 unfolding token_at
@@ -130,29 +126,16 @@ token_reads t.Close form rest e ends = sign_reads 41 t.Close form rest refl refl
 token_reads t.Comma form rest e ends = sign_reads 44 t.Comma form rest refl refl e
 token_reads (t.Word word) form rest e ends = subst (λ f. ReadsForm rest f (t.Word word)) (sym e) (word_reads word rest ends)
 token_reads (t.Number z) form rest is ends =
-    let reads = number_reads is.is_negative is.digits rest is.all_digits is.some_digit ends in
+    let reads = number_reads is.is_negative is.digits rest is.number is.natural ends in
     subst (λ f. ReadsForm rest f (t.Number z)) (sym is.written) (subst (λ n. Reads ((minus is.is_negative ++ is.digits) ++ rest) (t.Number n) rest) (sym is.value) reads)
 
 -- ---- the whole text
 
-skipped : (blanks text : List ℕ) → list_all is_blank blanks ≡ true → tokens_of (blanks ++ text) ≡ tokens_of text
-skipped [] text all = refl
-skipped (b ∷ bs) text all =
-    let parts = and_parts (is_blank b) (list_all is_blank bs) all in
-    tokens_of-blank b (bs ++ text) parts.0 ∙ skipped bs text parts.1
-
-all_blank : (text : List ℕ) → list_all is_blank text ≡ true → tokens_of text ≡ Some []
-all_blank [] all = tokens_of-empty [] refl
-all_blank (b ∷ bs) all =
-    let parts = and_parts (is_blank b) (list_all is_blank bs) all in
-    tokens_of-blank b bs parts.0 ∙ all_blank bs parts.1
+pub reader_complete : IsComplete reader IsToken
+reader_complete at text token rest is =
+    let reads = token_reads token is.form rest is.written is.ends in
+    record { first = reads.first; others = reads.others; cons = is.cut ∙ reads.cons; visible = reads.visible; found = reads.found }
 
 pub spelled-tokens_of : (text : List ℕ) (ts : List Token) → Spells text ts → tokens_of text ≡ Some ts
-spelled-tokens_of text [] spells = all_blank text spells
-spelled-tokens_of text (token ∷ ts) spells =
-    let rest = spells.0 in
-    let at = spells.1.0 in
-    let reads = token_reads token at.form rest at.written at.ends in
-    let more : tokens_of rest ≡ Some ts = spelled-tokens_of rest ts spells.1.1 in
-    let here : tokens_of (at.form ++ rest) ≡ option_map (λ x. token ∷ x) (tokens_of rest) = ap tokens_of reads.cons ∙ tokens_of-some reads.first reads.others (token, rest) reads.visible reads.found in
-    ap tokens_of at.cut ∙ (skipped at.blanks (at.form ++ rest) at.all_blank ∙ (here ∙ ap (option_map (λ x. token ∷ x)) more))
+unfolding tokens_of
+spelled-tokens_of text ts spells = ap all_or_none (spelled-tokens_from reader IsToken reader-shorter reader_complete (length text) text ts spells)

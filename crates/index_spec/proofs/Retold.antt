@@ -21,7 +21,7 @@ use Rattle.index_spec.specs.Words.{same_word}
 use Rattle.index_spec.specs.Options.{plain}
 use Rattle.index_spec.specs.Meaning.{fits, all_fit, has, is_among, are_among, has_all, is_set, repeats, lookup, number_in, number_named, numbers_in, numbers_named, coarse_in, coarse_named, within, draft_binning, draft_encoding, draft, outside, has_outside, any_outside, is_binning_counted, is_encoding_counted, rises, is_bounded, verdict, meaning}
 use Rattle.index_spec.specs.Language.{option, IsInRange, IsGivenBinning, IsGivenEncoding, IsGiven, binning_options, coarse_word, encoding_options, HasOptions}
-use Rattle.index_spec.proofs.Runs.{and_both}
+use Rattle.std.proofs.lemmas.Bool.{and_from}
 use Rattle.index_spec.proofs.Members.{here, later, all_same, any_same, found_once, SameMembers}
 use Rattle.index_spec.proofs.Sets.{no_repeats, word_refl}
 
@@ -102,7 +102,7 @@ binning_read (binning.Bounds bounds) ss options given =
     let few : nat_le (length bounds) 4096 ≡ true = (let h = given.1 in grind (arith, nat_tests)) in
     let fit : all_fit wanted ≡ true = bounds_fit bounds given.0 in
     let outside_none : any_outside wanted ≡ false = rw small refl in
-    record { tidy = tidy ss wanted options fit outside_none; draft = rw (one, two) (ap (λ x. Some (binning.Bounds x)) value); counted = refl; bounded = and_both (nat_le (length bounds) 4096) (rises bounds) few given.2 }
+    record { tidy = tidy ss wanted options fit outside_none; draft = rw (one, two) (ap (λ x. Some (binning.Bounds x)) value); counted = refl; bounded = and_from (nat_le (length bounds) 4096) (rises bounds) few given.2 }
   where
     bounds_fit : (bs : List ℤ) → 0 < length bs → all_fit (record { name = w.Bounds; value = v.Numbers bs } ∷ []) ≡ true
     bounds_fit [] some = absurd (omega arith)
@@ -128,7 +128,7 @@ binning_read (binning.Width start end count) ss options given =
     record {
       tidy = tidy ss wanted options refl outside_none;
       draft = rw (one, two, three) (ap (λ x. Some (binning.Width x (number_named w.End ss) (within 100000 (number_named w.Nbins ss)))) va ∙ (ap (λ x. Some (binning.Width start x (within 100000 (number_named w.Nbins ss)))) vb ∙ ap (λ x. Some (binning.Width start end x)) counts));
-      counted = and_both (nat_lt 0 count) (int_lt start end) low order;
+      counted = and_from (nat_lt 0 count) (int_lt start end) low order;
       bounded = refl;
     }
 binning_read (binning.Weight count) ss options given =

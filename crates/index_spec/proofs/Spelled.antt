@@ -1,22 +1,26 @@
 -- The tokens that the function gives are those that the text spells.
-use Rattle.std.proofs.Common.{◌≡◌, ℕ, zero, suc, ◌≤◌, ◌<◌, Bool, true, false, cond, List, [], ◌∷◌, ◌++◌, length, take, drop, refl, sym, ap, subst, ◌∙◌, inl, inr, eqb, eqb-true, append_assoc, arith}
-use Rattle.std.specs.Prelude.{Option, Some, None}
-use Rattle.std.specs.Option.{option_map, option_and_then}
-use Rattle.std.specs.List.{prefix_len, list_all, find}
+use Rattle.std.proofs.Common.{◌≡◌, ℕ, Bool, true, false, cond, List, [], ◌∷◌, ◌++◌, length, take, drop, refl, sym, ap, subst, ◌∙◌, inl, inr, eqb, eqb-true, append_assoc}
+use Rattle.std.specs.Prelude.{Option, Some, None, Result, Ok, Err}
+use Rattle.std.specs.Option.{option_map}
+use Rattle.std.specs.List.{prefix_len, find}
 use Rattle.std.specs.Str.{bytes_eq}
 use Rattle.std.specs.Char.{is_ascii_digit}
-use Rattle.std.proofs.lemmas.List.{take-append-drop, length-take-le}
-use Rattle.std.proofs.lemmas.List.Sums.{prefix_len-le-length}
+use Rattle.std.proofs.lemmas.List.{take-append-drop}
 use Rattle.std.proofs.lemmas.Slice.Eq.{bytes_eq-Decides}
-use Rattle.std.proofs.lemmas.Bool.Decides.{nat_tests}
 use Rattle.index_spec.specs.declared.word.Word.{Word}
 use Rattle.index_spec.specs.declared.word.TheConstants.{WORDS}
 use Rattle.index_spec.specs.declared.token.Token.{Token}
 use Rattle.index_spec.specs.declared.token.Token.TheVariants as t
 use Rattle.index_spec.specs.Words.{spelling, word_of}
-use Rattle.index_spec.specs.Tokens.{is_blank, is_letter, in_word, sign_of, minus, magnitude, signed, word_at, number_at, token_at, tokens_within, tokens_of, IsNumeral, IsWritten, EndsAt, Spells}
-use Rattle.index_spec.proofs.Cases.{chosen, guarded, mapped, chained}
-use Rattle.index_spec.proofs.Runs.{front_passes, rest_stops, and_both}
+use Rattle.lexing.specs.Tokens as lexing
+use Rattle.lexing.proofs.Laws.{IsSound, tokens_from-spelled}
+use Rattle.index_spec.specs.declared.token.NoToken.{NoToken}
+use Rattle.index_spec.specs.Shorter.{reader-shorter}
+use Rattle.index_spec.specs.Tokens.{is_letter, in_word, sign_of, minus, magnitude, word_at, number_at, token_at, told, reader, all_or_none, tokens_of, IsNumeral, IsWritten, EndsAt, IsInFront, IsToken, Spells}
+use Rattle.lexing.specs.Digits.{natural_at, signed}
+use Rattle.lexing.proofs.Cases.{chosen, mapped}
+use Rattle.lexing.proofs.DigitLemmas.{natural_at-cut}
+use Rattle.lexing.proofs.Runs.{rest_stops}
 
 find_passes : {X : Type 0} (p : X → Bool) (xs : List X) (x : X) → find p xs ≡ Some x → p x ≡ true
 find_passes p [] x e = cc
@@ -30,15 +34,8 @@ word_of_spelled : (form : List ℕ) (w : Word) → word_of form ≡ Some w → f
 unfolding word_of
 word_of_spelled form w e = sym ((bytes_eq-Decides (spelling w) form).0 (find_passes (λ v. bytes_eq (spelling v) form) WORDS w e))
 
--- a token with no blank before it
-pub record Cuts (text : List ℕ) (token : Token) (rest : List ℕ) : Type 0 where
-  pub form : List ℕ
-  pub cut : text ≡ form ++ rest
-  pub written : IsWritten form token
-  pub ends : EndsAt token rest
-
 abbrev CutsAt : List ℕ → Token × List ℕ → Type 0
-CutsAt text found = Cuts text found.0 found.1
+CutsAt text found = IsInFront text found.0 found.1
 
 word_cuts : (text : List ℕ) (found : Token × List ℕ) → word_at text ≡ Some found → CutsAt text found
 unfolding word_at
@@ -47,19 +44,15 @@ word_cuts text found e =
     let h = mapped (λ w. (t.Word w, drop n text)) (word_of (take n text)) found e in
     subst (CutsAt text) h.1.1 (record { form = take n text; cut = sym (take-append-drop n text); written = word_of_spelled (take n text) h.0 h.1.0; ends = rest_stops in_word text })
 
-some_digits : (n : ℕ) (text : List ℕ) → eqb n 0 ≡ false → n ≤ length text → 0 < length (take n text)
-some_digits n text some within = let l = length-take-le n text within in grind (arith, nat_tests)
-
 number_cuts : (is_negative : Bool) (text : List ℕ) (found : Token × List ℕ) → number_at is_negative text ≡ Some found → CutsAt (minus is_negative ++ text) found
 unfolding number_at
 number_cuts is_negative text found e =
-    let n = prefix_len is_ascii_digit text in
-    let digits = take n text in
-    let h = guarded (eqb n 0) (t.Number (signed is_negative (magnitude digits)), drop n text) found e in
-    let numeral : IsNumeral (minus is_negative ++ digits) (signed is_negative (magnitude digits)) =
-    record { is_negative = is_negative; digits = digits; written = refl; all_digits = front_passes is_ascii_digit text; some_digit = some_digits n text h.0 (prefix_len-le-length is_ascii_digit text); value = refl } in
-    let cut : minus is_negative ++ text ≡ (minus is_negative ++ digits) ++ drop n text = ap (λ x. minus is_negative ++ x) (sym (take-append-drop n text)) ∙ sym (append_assoc (minus is_negative) digits (drop n text)) in
-    subst (CutsAt (minus is_negative ++ text)) h.1 (record { form = minus is_negative ++ digits; cut = cut; written = numeral; ends = rest_stops is_ascii_digit text })
+    let h = mapped (λ f. (t.Number (signed is_negative (magnitude f.0)), f.1)) (natural_at text) found e in
+    let at = natural_at-cut text h.0 h.1.0 in
+    let numeral : IsNumeral (minus is_negative ++ at.digits) (signed is_negative (magnitude h.0.0)) =
+    record { is_negative = is_negative; digits = at.digits; number = h.0.0; written = refl; natural = at.natural; value = refl } in
+    let cut : minus is_negative ++ text ≡ (minus is_negative ++ at.digits) ++ h.0.1 = ap (λ x. minus is_negative ++ x) at.cut ∙ sym (append_assoc (minus is_negative) at.digits h.0.1) in
+    subst (CutsAt (minus is_negative ++ text)) h.1.1 (record { form = minus is_negative ++ at.digits; cut = cut; written = numeral; ends = at.ends })
 
 abbrev IsSign : ℕ → Token → Type 0
 IsSign b token = IsWritten (b ∷ []) token × ((rest : List ℕ) → EndsAt token rest)
@@ -119,34 +112,19 @@ token_cuts (b ∷ bs) found e =
       ]
     ]
 
--- a blank before a text leaves its tokens
-pub blank_before : (b : ℕ) (bs : List ℕ) (ts : List Token) → is_blank b ≡ true → Spells bs ts → Spells (b ∷ bs) ts
-blank_before b bs [] blank spells = and_both (is_blank b) (list_all is_blank bs) blank spells
-blank_before b bs (token ∷ ts) blank spells =
-    let at = spells.1.0 in
-    (spells.0, (record { blanks = b ∷ at.blanks; form = at.form; cut = ap (λ x. b ∷ x) at.cut; all_blank = and_both (is_blank b) (list_all is_blank at.blanks) blank at.all_blank; written = at.written; ends = at.ends }, spells.1.1))
+-- ---- the whole text
 
-token_before : (text : List ℕ) (token : Token) (rest : List ℕ) (ts : List Token) → Cuts text token rest → Spells rest ts → Spells text (token ∷ ts)
-token_before text token rest ts cuts spells =
-    (rest, (record { blanks = []; form = cuts.form; cut = cuts.cut; all_blank = refl; written = cuts.written; ends = cuts.ends }, spells))
+told_found : (o : Option (Token × List ℕ)) (found : Token × List ℕ) → told o ≡ Ok found → o ≡ Some found
+told_found None found e = absurd cc
+told_found (Some f) found e = let same : f ≡ found = cc in ap Some same
 
-empty_spells : (ts : List Token) → Some [] ≡ Some ts → Spells [] ts
-empty_spells [] e = refl
-empty_spells (token ∷ ts) e = cc
+pub reader_sound : IsSound reader IsToken
+reader_sound at text found e = token_cuts text found (told_found (token_at text) found e)
 
-spelled_within : (n : ℕ) (text : List ℕ) (ts : List Token) → tokens_within n text ≡ Some ts → Spells text ts
-spelled_within n [] ts e = empty_spells ts e
-spelled_within zero (b ∷ bs) ts e = cc
-spelled_within (suc n) (b ∷ bs) ts e =
-    let after : Token × List ℕ → Option (List Token) = λ found. option_map (λ more. found.0 ∷ more) (tokens_within n found.1) in
-    elim (chosen (is_blank b) (tokens_within n bs) (option_and_then after (token_at (b ∷ bs))) (Some ts) e) [
-      | inl h ↦ blank_before b bs ts h.0 (spelled_within n bs ts h.1)
-      | inr h ↦ (
-          let found = chained after (token_at (b ∷ bs)) ts h.1 in
-          let more = mapped (λ more. found.0.0 ∷ more) (tokens_within n found.0.1) ts found.1.1 in
-          subst (Spells (b ∷ bs)) more.1.1 (token_before (b ∷ bs) found.0.0 found.0.1 more.0 (token_cuts (b ∷ bs) found.0 found.1.0) (spelled_within n found.0.1 more.0 more.1.0)))
-    ]
+all_found : (r : Result (List Token) NoToken) (ts : List Token) → all_or_none r ≡ Some ts → r ≡ Ok ts
+all_found (Ok found) ts e = let same : found ≡ ts = cc in ap Ok same
+all_found (Err fault) ts e = absurd cc
 
 pub tokens_of-spelled : (text : List ℕ) (ts : List Token) → tokens_of text ≡ Some ts → Spells text ts
 unfolding tokens_of
-tokens_of-spelled text ts e = spelled_within (length text) text ts e
+tokens_of-spelled text ts e = tokens_from-spelled reader IsToken reader-shorter reader_sound (length text) text ts (all_found (lexing.tokens_of reader text) ts e)

@@ -24,8 +24,8 @@ use Rattle.index_spec.specs.Words.{same_word}
 use Rattle.index_spec.specs.Options.{plain}
 use Rattle.index_spec.specs.Meaning.{fits, all_fit, has, are_among, has_all, is_set, repeats, number_named, numbers_in, numbers_named, coarse_in, coarse_named, within, draft_binning, draft_encoding, draft, outside, has_outside, any_outside, is_binning_counted, is_encoding_counted, is_counted, rises, is_bounded, checked, verdict, meaning}
 use Rattle.index_spec.specs.Language.{option, IsInRange, IsGivenBinning, IsGivenEncoding, IsGiven, binning_options, coarse_word, encoding_options, HasOptions}
-use Rattle.index_spec.proofs.Cases.{chosen, mapped, chained}
-use Rattle.index_spec.proofs.Runs.{and_parts}
+use Rattle.lexing.proofs.Cases.{chosen, mapped, chained}
+use Rattle.std.proofs.lemmas.Bool.{and_parts}
 use Rattle.index_spec.proofs.Members.{nowhere, here, later, in_cases, all_of, none_of, or_parts, SameMembers}
 use Rattle.index_spec.proofs.Sets.{once, Only, only_one, number_option, in_set}
 

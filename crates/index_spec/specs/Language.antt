@@ -1,5 +1,5 @@
 -- Which specification a text spells, and what is said of a text that spells none.
-use Rattle.std.specs.Prelude.{◌≡◌, ℕ, ◌≤◌, ◌<◌, ◌-◌, ◌^◌, true, ◌↔◌, if◌then◌else◌, nat_lt, List, [], ◌∷◌, length, Option, Some, None, Result, Ok, Err, ℤ, pos, negsuc, ◌≤ℤ◌, ◌<ℤ◌}
+use Rattle.std.specs.Prelude.{◌≡◌, ℕ, ◌≤◌, ◌<◌, ◌-◌, ◌^◌, true, ◌↔◌, if◌then◌else◌, nat_lt, List, [], ◌∷◌, length, Option, Some, None, Result, Err, ℤ, pos, negsuc, ◌≤ℤ◌, ◌<ℤ◌}
 use Rattle.std.specs.Option.{option_and_then}
 use Rattle.std.specs.List.{Contains, AllByRecursion}
 use Rattle.index_spec.specs.Counts.{HasGroups}
@@ -98,11 +98,10 @@ answer_by (Some f) = meaning f
 unfoldable pub spec_of : List ℕ → Result Spec SpecKind
 spec_of text = if nat_lt 131072 (length text) then Err kind.TooLong else answer_by (option_and_then form_of (tokens_of text))
 
--- a call's answer is this one, unless memory ran out
-abbrev pub Gives : Result Spec SpecFault → Result Spec SpecKind → Type 0
-Gives (Ok s) answer = answer ≡ Ok s
-Gives (Err fault.OutOfMemory) answer = Unit {0}
-Gives (Err (fault.Bad kind)) answer = answer ≡ Err kind
+-- the refusal that a fault tells of a text; want of memory tells none
+abbrev pub refusal : SpecFault → Option SpecKind
+refusal (fault.Bad kind) = Some kind
+refusal fault.OutOfMemory = None
 
 -- a refusal that a text can have
 abbrev pub IsToldByText : SpecFault → Type 0

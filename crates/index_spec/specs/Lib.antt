@@ -1,7 +1,9 @@
 pub mod Counts
+pub mod Members
 pub mod Words
 pub mod Tokens
 pub mod Options
 pub mod Meaning
 pub mod Printed
 pub mod Language
+pub mod Shorter

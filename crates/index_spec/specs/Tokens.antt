@@ -1,17 +1,17 @@
 -- Which tokens a text spells.
-use Rattle.std.specs.Prelude.{◌≡◌, ◌<◌, ℕ, zero, suc, ◌+◌, ◌-◌, ◌*◌, ◌^◌, min, Bool, true, false, ◌&&◌, ◌||◌, if◌then◌else◌, ◌==◌, nat_le, List, [], ◌∷◌, ◌++◌, length, take, drop, Option, Some, None, ℤ, pos, neg_ℤ, codes}
-use Rattle.std.specs.Option.{option_map, option_and_then}
-use Rattle.std.specs.List.{prefix_len, list_all}
+use Rattle.std.specs.Prelude.{◌≡◌, ℕ, ◌^◌, min, Bool, true, false, ◌&&◌, ◌||◌, if◌then◌else◌, ◌==◌, nat_le, List, [], ◌∷◌, ◌++◌, length, take, drop, Option, Some, None, Result, Ok, Err, ℤ, codes}
+use Rattle.std.specs.Option.{option_map}
+use Rattle.std.specs.List.{prefix_len}
 use Rattle.std.specs.Char.{is_ascii_digit}
+use Rattle.lexing.specs.Blanks.{StopsAt}
+use Rattle.lexing.specs.Digits.{natural_at, natural_of, signed}
+use Rattle.lexing.specs.Tokens as lexing
 use Rattle.index_spec.specs.Words.{spelling, word_of}
+use Rattle.index_spec.specs.declared.token.NoToken.{NoToken}
 use Rattle.index_spec.specs.declared.token.Token.{Token}
 use Rattle.index_spec.specs.declared.token.Token.TheVariants as t
 
 -- ---- bytes
-
--- space, tab, line feed, carriage return
-abbrev pub is_blank : ℕ → Bool
-is_blank b = b == 32 || b == 9 || b == 10 || b == 13
 
 abbrev pub is_letter : ℕ → Bool
 is_letter b = nat_le 97 b && nat_le b 122
@@ -22,17 +22,9 @@ in_word b = is_letter b || b == 45
 
 -- ---- numbers
 
--- the number that the digits write, after those that wrote n
-abbrev pub value_from : ℕ → List ℕ → ℕ
-value_from n [] = n
-value_from n (d ∷ ds) = value_from (n * 10 + (d - 48)) ds
-
 -- a magnitude is told up to 2^64, which passes each limit on numbers
-abbrev pub magnitude : List ℕ → ℕ
-magnitude digits = min (value_from 0 digits) (2 ^ 64)
-
-abbrev pub signed : Bool → ℕ → ℤ
-signed is_negative n = if is_negative then neg_ℤ (pos n) else pos n
+abbrev pub magnitude : ℕ → ℕ
+magnitude n = min n (2 ^ 64)
 
 -- ---- what a text spells
 
@@ -44,10 +36,10 @@ minus false = []
 pub record IsNumeral (form : List ℕ) (z : ℤ) : Type 0 where
   pub is_negative : Bool
   pub digits : List ℕ
+  pub number : ℕ
   pub written : form ≡ minus is_negative ++ digits
-  pub all_digits : list_all is_ascii_digit digits ≡ true
-  pub some_digit : 0 < length digits
-  pub value : z ≡ signed is_negative (magnitude digits)
+  pub natural : natural_of digits ≡ Some number
+  pub value : z ≡ signed is_negative (magnitude number)
 
 -- the form of a token
 abbrev pub IsWritten : List ℕ → Token → Type 0
@@ -61,30 +53,25 @@ IsWritten form t.Comma = form ≡ codes ","
 IsWritten form (t.Word w) = form ≡ spelling w
 IsWritten form (t.Number z) = IsNumeral form z
 
--- no byte at the front goes on with what stands before
-abbrev pub StopsAt : (ℕ → Bool) → List ℕ → Type 0
-StopsAt goes_on [] = Unit {0}
-StopsAt goes_on (b ∷ bs) = goes_on b ≡ false
-
 -- a word or a number is as long as it can be
 abbrev pub EndsAt : Token → List ℕ → Type 0
 EndsAt (t.Word w) rest = StopsAt in_word rest
 EndsAt (t.Number z) rest = StopsAt is_ascii_digit rest
 EndsAt _ rest = Unit {0}
 
--- blanks, the form of the token, and a rest that it doesn't reach into
-pub record BeginsWith (text : List ℕ) (token : Token) (rest : List ℕ) : Type 0 where
-  pub blanks : List ℕ
+-- the form of the token, and a rest that it doesn't reach into
+pub record IsInFront (text : List ℕ) (token : Token) (rest : List ℕ) : Type 0 where
   pub form : List ℕ
-  pub cut : text ≡ blanks ++ (form ++ rest)
-  pub all_blank : list_all is_blank blanks ≡ true
+  pub cut : text ≡ form ++ rest
   pub written : IsWritten form token
   pub ends : EndsAt token rest
 
+abbrev pub IsToken : ℕ → List ℕ → Token → List ℕ → Type 0
+IsToken at text token rest = IsInFront text token rest
+
 -- The tokens, one after the other, with blanks between, before and after.
 abbrev pub Spells : List ℕ → List Token → Type 0
-Spells text [] = list_all is_blank text ≡ true
-Spells text (token ∷ tokens) = (rest : List ℕ) × (BeginsWith text token rest × Spells rest tokens)
+Spells text tokens = lexing.Spells IsToken (length text) text tokens
 
 -- ---- the same, as a function
 
@@ -100,9 +87,7 @@ word_at text =
     option_map (λ w. (t.Word w, drop n text)) (word_of (take n text))
 
 unfoldable pub number_at : Bool → List ℕ → Option (Token × List ℕ)
-number_at is_negative text =
-    let n = prefix_len is_ascii_digit text in
-    if n == 0 then None else Some (t.Number (signed is_negative (magnitude (take n text))), drop n text)
+number_at is_negative text = option_map (λ found. (t.Number (signed is_negative (magnitude found.0)), found.1)) (natural_at text)
 
 -- the token at the front, and what follows it
 unfoldable pub token_at : List ℕ → Option (Token × List ℕ)
@@ -113,13 +98,16 @@ token_at (b ∷ bs) =
     else (if is_ascii_digit b then number_at false (b ∷ bs)
     else option_map (λ t. (t, bs)) (sign_of b)))
 
--- a token at each step, at most n of them with the blanks
-abbrev pub tokens_within : ℕ → List ℕ → Option (List Token)
-tokens_within n [] = Some []
-tokens_within zero (b ∷ bs) = None
-tokens_within (suc n) (b ∷ bs) =
-    if is_blank b then tokens_within n bs
-    else option_and_then (λ found. option_map (λ more. found.0 ∷ more) (tokens_within n found.1)) (token_at (b ∷ bs))
+abbrev pub told : Option (Token × List ℕ) → Result (Token × List ℕ) NoToken
+told None = Err (record {})
+told (Some found) = Ok found
+
+abbrev pub reader : ℕ → List ℕ → Result (Token × List ℕ) NoToken
+reader at text = told (token_at text)
+
+abbrev pub all_or_none : Result (List Token) NoToken → Option (List Token)
+all_or_none (Ok tokens) = Some tokens
+all_or_none (Err fault) = None
 
 unfoldable pub tokens_of : List ℕ → Option (List Token)
-tokens_of text = tokens_within (length text) text
+tokens_of text = all_or_none (lexing.tokens_of reader text)

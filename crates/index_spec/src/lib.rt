@@ -5,6 +5,7 @@
 #![tactic(auto)]
 
 mod meaning;
+mod needed;
 mod options;
 mod parsing;
 mod printing;
@@ -12,6 +13,7 @@ mod spec;
 mod token;
 mod word;
 
+pub use needed::needed_bitmaps;
 pub use parsing::parse_spec;
 pub use printing::print_spec;
 pub use spec::{Binning, Coarse, EncodingSpec, Spec, SpecFault, SpecKind};

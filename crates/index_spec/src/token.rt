@@ -4,9 +4,12 @@ ghost use Rattle.std.specs.Prelude.{◌≡◌, ◌≤◌, ◌^◌, length, IfOk}
 ghost use Rattle.std.specs.Option.{option_map};
 ghost use Rattle.std.specs.List.{prefix_len};
 ghost use Rattle.std.specs.Char.{is_ascii_digit};
-ghost use Rattle.index_spec.specs.Tokens.{is_blank, is_letter, in_word, sign_of, magnitude, signed, word_at, number_at, token_at, tokens_of};
+ghost use Rattle.lexing.specs.Digits.{signed};
+ghost use Rattle.index_spec.specs.Tokens.{is_letter, in_word, sign_of, word_at, number_at, reader, token_at, tokens_of};
+ghost use Rattle.index_spec.specs.Shorter.{reader-shorter};
 
 use crate::word::{Word, word_of};
+use lexing::{Lexeme, natural_at};
 use sqlite_items::Items;
 use std::alloc::{AllocError, Global};
 
@@ -22,12 +25,6 @@ pub(crate) enum Token {
     Comma,
     Word(Word),
     Number(i128),
-}
-
-fn is_blank(byte: u8) -> bool
-    ensures { result ≡ is_blank byte }
-{
-    byte == b' ' || byte == b'\t' || byte == b'\n' || byte == b'\r'
 }
 
 fn is_letter(byte: u8) -> bool
@@ -64,27 +61,8 @@ fn word_len(text: &[u8]) -> usize
     text.iter().take_while(|b| in_word(**b)).count()
 }
 
-fn digits_len(text: &[u8]) -> usize
-    ensures value { result ≡ prefix_len is_ascii_digit text.now }
-    ensures within { result ≤ length text.now }
-{
-    text.iter().take_while(|b| b.is_ascii_digit()).count()
-}
-
 /// Where magnitudes are cut off: no number of a specification reaches it.
 const MAX_MAGNITUDE: u128 = 1 << 64;
-
-/// The number that the digits write, at most 2^64.
-fn magnitude(digits: &[u8]) -> u128
-    ensures { result ≡ magnitude digits.now }
-{
-    let mut value: u128 = 0;
-    for digit in digits {
-        let more = value * 10 + u128::from(digit.saturating_sub(b'0'));
-        value = more.min(MAX_MAGNITUDE);
-    }
-    value
-}
 
 fn signed(is_negative: bool, magnitude: u128) -> i128
     requires { magnitude ≤ 2 ^ 64 }
@@ -111,12 +89,11 @@ fn word_at(text: &[u8]) -> Option<(Token, &[u8])>
 fn number_at(is_negative: bool, text: &[u8]) -> Option<(Token, &[u8])>
     ensures { option_map (λ found. (found.0, found.1.now)) result ≡ number_at is_negative text.now }
 {
-    let len = digits_len(text);
-    if len == 0 {
-        return None;
-    }
-    let (front, rest) = text.split_at(len);
-    Some((Token::Number(signed(is_negative, magnitude(front))), rest))
+    let (number, rest) = natural_at(text)?;
+    Some((
+        Token::Number(signed(is_negative, number.min(MAX_MAGNITUDE))),
+        rest,
+    ))
 }
 
 /// The token at the front, which is no blank, and what follows it.
@@ -142,24 +119,37 @@ fn token_at(text: &[u8]) -> Option<(Token, &[u8])>
     }
 }
 
-/// The tokens of a text, None where it isn't a list of tokens with blanks between.
-pub(crate) fn tokens(alloc: Global, text: &[u8]) -> Result<Option<Items<Token>>, AllocError>
-    ensures { IfOk result (λ found. found ≡ tokens_of text.now) }
-{
-    let mut tokens = Items::new(alloc);
-    let mut rest = text;
-    while !rest.is_empty() {
-        if is_blank(rest[0]) {
-            rest = rest.split_at(1).1;
-        } else {
-            match token_at(rest) {
-                None => return Ok(None),
-                Some((token, after)) => {
-                    tokens.push(token)?;
-                    rest = after;
-                }
-            }
+/// No token of the language stands there.
+#[derive(Clone, Copy, Debug)]
+pub(crate) struct NoToken;
+
+impl Lexeme for Token {
+    type Fault = NoToken;
+
+    ghost reader = { reader };
+
+    fn read(
+        _alloc: Global,
+        _at: u32,
+        text: &[u8],
+    ) -> Result<Result<(Token, &[u8]), NoToken>, AllocError> {
+        match token_at(text) {
+            Some(found) => Ok(Ok(found)),
+            None => Ok(Err(NoToken)),
         }
     }
-    Ok(Some(tokens))
+
+    ghost shorter = { reader-shorter };
+}
+
+/// The tokens of a text, None where it isn't a list of tokens with blanks between.
+#[tactic(auto, unfolding(crate::specs::Tokens::tokens_of))]
+pub(crate) fn tokens(alloc: Global, text: &[u8]) -> Result<Option<Items<Token>>, AllocError>
+    requires { length text.now ≤ 131072 }
+    ensures { IfOk result (λ found. found ≡ tokens_of text.now) }
+{
+    match lexing::tokens(alloc, text)? {
+        Ok(tokens) => Ok(Some(tokens)),
+        Err(NoToken) => Ok(None),
+    }
 }

@@ -5,7 +5,7 @@ use Rattle.std.proofs.lemmas.List.{append-nil, length_push, length-append}
 use Rattle.std.proofs.lemmas.List.Concat.{flat_map-append}
 use Rattle.fb_types.specs.declared.schemas.Column.{Column}
 use Rattle.fb_types.specs.declared.types.ColType.TheVariants.{Int}
-use Rattle.part_meta.specs.PartText.{IsPart, column_begin_line, column_end_line, column_lines, count_line, header_begin_line, header_end_line, name_line, number_line, part_lines, rows_line, type_line}
+use Rattle.part_meta.specs.PartText.{IsPart, column_begin_line, column_end_line, column_lines, count_line, header_begin_line, header_end_line, name_line, number_line, part_lines, rows_line, type_line, most_rows}
 use Rattle.part_meta.specs.PartFront.{AreColumns, IsBody, IsFront, IsHead, IsOpen, Takes, body_lines, front_lines, head_lines, open_lines}
 use Rattle.part_meta.specs.declared.part.PartMeta.{PartMeta}
 use Rattle.part_meta.specs.declared.part_reading.Head.{Head}
@@ -95,11 +95,11 @@ begins_in_columns body (open_.Typed column) valid takes =
 small_head : ℕ → ℕ → Head
 small_head number rows = record { number = number; rows = rows; count = 1 }
 
-small : (number rows : ℕ) → number < 4096 → 1 ≤ rows → rows ≤ 4194304 → IsHead (small_head number rows)
+small : (number rows : ℕ) → number < 4096 → 1 ≤ rows → rows ≤ most_rows → IsHead (small_head number rows)
 unfolding small_head
 small number rows a b c = record { number = a; some_rows = b; few_rows = c; some = lit≤ tt; few = lit≤ tt }
 
-begins_rows : (number rows : ℕ) → number < 4096 → 1 ≤ rows → rows ≤ 4194304 → BeginsPart (header_begin_line ∷ number_line number ∷ rows_line rows ∷ [])
+begins_rows : (number rows : ℕ) → number < 4096 → 1 ≤ rows → rows ≤ most_rows → BeginsPart (header_begin_line ∷ number_line number ∷ rows_line rows ∷ [])
 unfolding small_head
 begins_rows number rows a b c =
     let begun = begins_head (small_head number rows) (small number rows a b c) in

@@ -1,5 +1,6 @@
 -- What the readers of catalogs and parts' texts answer.
-use Rattle.std.specs.Prelude.{◌≡◌, ℕ, List, Result, Ok, Err}
+use Rattle.std.specs.Prelude.{◌≡◌, ℕ, List, Option, Some, None, Result, Ok, Err}
+use Rattle.answers.specs.Answers.{Tells}
 use Rattle.part_meta.specs.Lines.{IsFirstWrong, lines_in}
 use Rattle.part_meta.specs.declared.fault.MetaTextFault.{MetaTextFault}
 use Rattle.part_meta.specs.declared.fault.MetaTextFault.TheVariants.{At, OutOfMemory}
@@ -10,12 +11,12 @@ Gives (Ok found) x = found ≡ x
 Gives (Err (At line)) x = ⊥
 Gives (Err OutOfMemory) x = Unit {0}
 
--- the line that a fault tells is the first wrong one
-abbrev pub IsFaultOf : {A : Type 0} → (A → Type 0) → (A → List (List ℕ)) → List ℕ → MetaTextFault → Type 0
-IsFaultOf IsOf lines bytes (At line) = IsFirstWrong IsOf lines bytes line
-IsFaultOf IsOf lines bytes OutOfMemory = Unit {0}
+-- the line that a fault tells; want of memory tells none
+abbrev pub wrong_line : MetaTextFault → Option ℕ
+wrong_line (At line) = Some line
+wrong_line OutOfMemory = None
 
 -- What a reader answers: the value whose lines the bytes have, or the first wrong line.
 abbrev pub Reads : {A : Type 0} → (A → Type 0) → (A → List (List ℕ)) → List ℕ → Result A MetaTextFault → Type 0
 Reads IsOf lines bytes (Ok x) = IsOf x × (lines_in bytes ≡ lines x)
-Reads IsOf lines bytes (Err e) = IsFaultOf IsOf lines bytes e
+Reads IsOf lines bytes (Err e) = Tells wrong_line (IsFirstWrong IsOf lines bytes) e

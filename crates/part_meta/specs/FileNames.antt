@@ -1,5 +1,5 @@
 -- The names of a dataset's files, under its path.
-use Rattle.std.specs.Prelude.{◌≡◌, ◌⊎◌, ℕ, ◌+◌, ◌/◌, ◌%◌, Option, Some, List, [], ◌∷◌, ◌++◌, unwrap_or, IsNone, IsSomeAnd}
+use Rattle.std.specs.Prelude.{◌≡◌, ◌⊎◌, ℕ, ◌<◌, ◌+◌, ◌/◌, ◌%◌, Option, Some, None, List, [], ◌∷◌, ◌++◌, unwrap_or, IsNone, IsSomeAnd}
 use lib.Chars.{codes}
 use Rattle.fb_types.specs.Names.{IsColumnName}
 use Rattle.part_meta.specs.declared.names.FileKind.{FileKind}
@@ -49,8 +49,27 @@ IsCalled Index name = IsSomeAnd name IsColumnName
 abbrev pub values_name : List ℕ → ℕ → List ℕ → List ℕ
 values_name dir part name = file_name dir part (Some name) Values
 
+-- which of a column's rows have a value
+abbrev pub mask_name : List ℕ → ℕ → List ℕ → List ℕ
+mask_name dir part name = file_name dir part (Some name) Mask
+
+-- a column's index
+abbrev pub index_name : List ℕ → ℕ → List ℕ → List ℕ
+index_name dir part name = file_name dir part (Some name) Index
+
+-- a part's own text
+abbrev pub part_name : List ℕ → ℕ → List ℕ
+part_name dir part = file_name dir part None PartText
+
+-- a file of a part: its number is below 4,096, and its name is that of its kind and column
+pub record IsPartFile (dir file : List ℕ) : Type 0 where
+  pub part : ℕ
+  pub name : Option (List ℕ)
+  pub kind : FileKind
+  pub below : part < 4096
+  pub called : IsCalled kind name
+  pub is : file ≡ file_name dir part name kind
+
 -- a name of the table: the catalog, or a file of a part, under the path
 abbrev pub IsFileOf : List ℕ → List ℕ → Type 0
-IsFileOf dir file =
-    (file ≡ catalog_name dir)
-    ⊎ ((part : ℕ) × (name : Option (List ℕ)) × (kind : FileKind) × (file ≡ file_name dir part name kind))
+IsFileOf dir file = (file ≡ catalog_name dir) ⊎ IsPartFile dir file

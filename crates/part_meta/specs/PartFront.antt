@@ -3,7 +3,7 @@ use Rattle.std.specs.Prelude.{◌≢◌, ◌≤◌, ◌<◌, ℕ, List, [], ◌�
 use Rattle.std.specs.List.{All, AllPairs, flat_map}
 use Rattle.fb_types.specs.Names.{IsColumnName}
 use Rattle.fb_types.specs.declared.schemas.Column.{Column}
-use Rattle.part_meta.specs.PartText.{column_begin_line, column_lines, count_line, header_begin_line, header_lines, name_line, number_line, rows_line, type_line}
+use Rattle.part_meta.specs.PartText.{column_begin_line, column_lines, count_line, header_begin_line, header_lines, name_line, number_line, rows_line, type_line, most_rows}
 use Rattle.part_meta.specs.declared.part_reading.Head.{Head}
 use Rattle.part_meta.specs.declared.part_reading.Body.{Body}
 use Rattle.part_meta.specs.declared.part_reading.Open.{Open}
@@ -39,7 +39,7 @@ front_lines (front.InColumns body column) = body_lines body ++ open_lines column
 pub record IsHead (head : Head) : Type 0 where
   pub number : head.number < 4096
   pub some_rows : 1 ≤ head.rows
-  pub few_rows : head.rows ≤ 4194304
+  pub few_rows : head.rows ≤ most_rows
   pub some : 1 ≤ head.count
   pub few : head.count ≤ 255
 
@@ -68,6 +68,6 @@ abbrev pub IsFront : PartFront → Type 0
 IsFront front.Nothing = Unit {0}
 IsFront front.Begun = Unit {0}
 IsFront (front.Numbered number) = number < 4096
-IsFront (front.Counted number rows) = (number < 4096) × (1 ≤ rows) × (rows ≤ 4194304)
+IsFront (front.Counted number rows) = (number < 4096) × (1 ≤ rows) × (rows ≤ most_rows)
 IsFront (front.Headed head) = IsHead head
 IsFront (front.InColumns body column) = IsBody body × IsOpen body column

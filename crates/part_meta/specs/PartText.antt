@@ -10,11 +10,15 @@ use Rattle.part_meta.specs.FileNames.{folder_name}
 use Rattle.part_meta.specs.Lines.{line, joined}
 use Rattle.part_meta.specs.declared.part.PartMeta.{PartMeta}
 
+-- the most rows of a part
+abbrev pub most_rows : ℕ
+most_rows = 4194304
+
 -- what a part's text may say
 pub record IsPart (part : PartMeta) : Type 0 where
   pub number : part.number < 4096
   pub some : 1 ≤ part.rows
-  pub few : part.rows ≤ 4194304
+  pub few : part.rows ≤ most_rows
   pub schema : IsSchema part.schema
 
 -- ---- the lines of a column

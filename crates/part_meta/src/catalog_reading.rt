@@ -5,10 +5,11 @@ ghost use Rattle.std.specs.List.{All, AllPairs};
 ghost use Rattle.fb_types.specs.declared.schemas.Column.{Column};
 ghost use Rattle.fb_types.specs.Schemas.{IsSchema};
 ghost use Rattle.fb_types.specs.SchemaText.{schema_text};
-ghost use Rattle.part_meta.specs.Lines.{GoesOn};
+ghost use Rattle.part_meta.specs.Lines.{GoesOn, IsFirstWrong};
 ghost use Rattle.part_meta.specs.CatalogText.{IsCatalog, catalog_lines, catalog_text, schema_line};
 ghost use Rattle.part_meta.specs.CatalogFront.{IsFront, front_lines, with_part};
-ghost use Rattle.part_meta.specs.Faults.{Gives, IsFaultOf};
+ghost use Rattle.answers.specs.Answers.{Tells};
+ghost use Rattle.part_meta.specs.Faults.{Gives, wrong_line};
 
 use crate::catalog::Catalog;
 use crate::fault::MetaTextFault;
@@ -34,7 +35,7 @@ pub fn parse_catalog(alloc: Global, bytes: &[u8]) -> Result<Catalog, MetaTextFau
     ensures valid { IfOk result IsCatalog }
     ensures exact { (catalog : Catalog) → IsCatalog catalog → bytes.now ≡ catalog_text catalog → Gives result catalog }
 
-    ensures fault { IfErr result (IsFaultOf IsCatalog catalog_lines bytes.now) }
+    ensures fault { IfErr result (Tells wrong_line (IsFirstWrong IsCatalog catalog_lines bytes.now)) }
 {
     read::<CatalogFront>(alloc, bytes)
 }

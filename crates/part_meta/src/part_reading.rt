@@ -6,10 +6,11 @@ ghost use Rattle.fb_types.specs.Names.{IsColumnName};
 ghost use Rattle.fb_types.specs.Types.{type_name};
 ghost use Rattle.fb_types.specs.declared.types.ColType.{ColType};
 ghost use Rattle.part_meta.specs.FileNames.{folder_name, four_digits};
-ghost use Rattle.part_meta.specs.Lines.{Ends, GoesOn};
+ghost use Rattle.part_meta.specs.Lines.{Ends, GoesOn, IsFirstWrong};
 ghost use Rattle.part_meta.specs.PartText.{IsPart, part_lines, part_text};
 ghost use Rattle.part_meta.specs.PartFront.{IsBody, IsFront, IsHead, Takes, front_lines};
-ghost use Rattle.part_meta.specs.Faults.{Gives, IsFaultOf};
+ghost use Rattle.answers.specs.Answers.{Tells};
+ghost use Rattle.part_meta.specs.Faults.{Gives, wrong_line};
 ghost use lib.Chars.{codes};
 
 use crate::fault::MetaTextFault;
@@ -62,7 +63,7 @@ pub fn parse_part(alloc: Global, bytes: &[u8]) -> Result<PartMeta, MetaTextFault
     ensures valid { IfOk result IsPart }
     ensures exact { (part : PartMeta) → IsPart part → bytes.now ≡ part_text part → Gives result part }
 
-    ensures fault { IfErr result (IsFaultOf IsPart part_lines bytes.now) }
+    ensures fault { IfErr result (Tells wrong_line (IsFirstWrong IsPart part_lines bytes.now)) }
 {
     read::<PartFront>(alloc, bytes)
 }

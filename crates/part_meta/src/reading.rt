@@ -2,8 +2,9 @@
 
 ghost use Rattle.std.specs.Prelude.{◌≡◌, ◌≤◌, [], List, ℕ, length, IfOk, IfErr};
 ghost use Rattle.std.specs.List.{AllByRecursion};
-ghost use Rattle.part_meta.specs.Lines.{Begins, Ends, GoesOn, IsLine, joined};
-ghost use Rattle.part_meta.specs.Faults.{Gives, IsFaultOf, Reads};
+ghost use Rattle.part_meta.specs.Lines.{Begins, Ends, GoesOn, IsLine, joined, IsFirstWrong};
+ghost use Rattle.answers.specs.Answers.{Tells};
+ghost use Rattle.part_meta.specs.Faults.{Gives, Reads, wrong_line};
 
 use crate::fault::MetaTextFault;
 use crate::lines::split_line;
@@ -51,7 +52,7 @@ pub(crate) fn read<F: Front + Drop>(alloc: Global, bytes: &[u8]) -> Result<F::Wh
     ensures found { IfOk result (λ x. bytes.now ≡ joined (F.lines x)) }
     ensures valid { IfOk result F.is_of }
     ensures exact { (x : F.Whole) → F.is_of x → bytes.now ≡ joined (F.lines x) → Gives result x }
-    ensures fault { IfErr result (IsFaultOf F.is_of F.lines bytes.now) }
+    ensures fault { IfErr result (Tells wrong_line (IsFirstWrong F.is_of F.lines bytes.now)) }
 {
     F::laws();
     read_lines::<F>(alloc, bytes)

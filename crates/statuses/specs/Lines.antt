@@ -5,12 +5,12 @@ use Rattle.fb_types.specs.declared.schema_text.SchemaKind.{SchemaKind}
 use Rattle.fb_types.specs.declared.schema_text.SchemaKind.TheVariants.{Empty, TooMany, BadName, BadType, Repeated}
 use Rattle.csv_load.specs.declared.fields.RecordKind.{RecordKind}
 use Rattle.csv_load.specs.declared.fields.RecordKind.TheVariants.{FieldCount, NotWhole, OutOfRange, TextLength}
+use Rattle.dataset.specs.declared.fault.DamageKind.{DamageKind}
+use Rattle.dataset.specs.declared.fault.DamageKind.TheVariants.{Missing, Text, Length, Mask}
 use Rattle.where_grammar.specs.declared.clause.QueryKind.{QueryKind}
-use Rattle.where_grammar.specs.declared.clause.QueryKind.TheVariants.{Syntax, Literal, Unknown}
-use Rattle.statuses.specs.declared.DamageKind.{DamageKind}
-use Rattle.statuses.specs.declared.DamageKind.TheVariants.{Missing, Text, Length}
+use Rattle.where_grammar.specs.declared.clause.QueryKind.TheVariants as query
 use Rattle.statuses.specs.declared.LimitKind.{LimitKind}
-use Rattle.statuses.specs.declared.LimitKind.TheVariants.{Input}
+use Rattle.statuses.specs.declared.LimitKind.TheVariants.{Rows, Input, Session, Parts, Numbers}
 use Rattle.statuses.specs.declared.Status.{Status}
 use Rattle.statuses.specs.declared.Status.TheVariants.{Done, Usage, BadSchema, BadInput, SchemaDiffers, BadQuery, NoDataset, Damaged, Limit, ReadFault, StoreFault, SinkFault, OutOfMemory}
 
@@ -44,19 +44,29 @@ record_word NotWhole = codes "NotWhole"
 record_word OutOfRange = codes "OutOfRange"
 record_word TextLength = codes "TextLength"
 
--- a column that isn't known is named
+-- a column that isn't known, or is of the wrong type, is named
 unfoldable pub query_word : QueryKind → List ℕ
-query_word Syntax = codes "Syntax"
-query_word Literal = codes "Literal"
-query_word (Unknown name) = codes "Unknown " ++ name
+query_word query.Length = codes "Length"
+query_word query.Syntax = codes "Syntax"
+query_word query.Literal = codes "Literal"
+query_word query.TextLength = codes "TextLength"
+query_word query.Depth = codes "Depth"
+query_word query.ListLength = codes "ListLength"
+query_word (query.Unknown name) = codes "Unknown " ++ name
+query_word (query.WrongType name) = codes "WrongType " ++ name
 
 unfoldable pub damage_word : DamageKind → List ℕ
 damage_word Missing = codes "Missing"
 damage_word Text = codes "Text"
 damage_word Length = codes "Length"
+damage_word Mask = codes "Mask"
 
 unfoldable pub limit_word : LimitKind → List ℕ
+limit_word Rows = codes "rows"
 limit_word Input = codes "input"
+limit_word Session = codes "session"
+limit_word Parts = codes "parts"
+limit_word Numbers = codes "numbers"
 
 -- the line of a refusal, ended by a line feed; the other statuses print none
 unfoldable pub line_of : Status → List ℕ

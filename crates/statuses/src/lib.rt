@@ -7,6 +7,7 @@ ghost use Rattle.statuses.specs.Lines.{code_of, damage_word, limit_word, line_of
 mod stop;
 
 use csv_load::RecordKind;
+pub use dataset::DamageKind;
 use fb_outside::FileName;
 use fb_types::SchemaKind;
 use std::alloc::{AllocError, Global};
@@ -16,18 +17,16 @@ use where_grammar::QueryKind;
 /// Which limit a number passed.
 #[derive(Clone, Copy, Debug, PartialEq, Eq)]
 pub enum LimitKind {
+    /// Rows of a part.
+    Rows,
+    /// Bytes of a load's input.
     Input,
-}
-
-/// What is wrong with a file of a dataset.
-#[derive(Clone, Copy, Debug, PartialEq, Eq)]
-pub enum DamageKind {
-    /// The catalog lists it, but it is absent.
-    Missing,
-    /// It is no text of its kind.
-    Text,
-    /// Its length is none that such a file has.
-    Length,
+    /// Bytes of a session.
+    Session,
+    /// Parts of a dataset.
+    Parts,
+    /// The number that the next part of a dataset gets.
+    Numbers,
 }
 
 /// How a command ended: done, refused (`Usage` to `Limit`, whose line is printed), or stopped by a fault of the
@@ -56,7 +55,7 @@ pub enum Status {
     BadQuery {
         kind: QueryKind,
     },
-    /// The path has no dataset: this catalog is absent.
+    /// This file is absent: the catalog of the path, or the file of a load's records.
     NoDataset {
         file: FileName,
     },
@@ -181,11 +180,19 @@ fn query_kind(alloc: Global, kind: &QueryKind) -> Result<String, AllocError>
     ensures { IfOk result (λ word. string_bytes word ≡ query_word kind.now) }
 {
     match kind {
+        QueryKind::Length => String::from_str(alloc, "Length"),
         QueryKind::Syntax => String::from_str(alloc, "Syntax"),
         QueryKind::Literal => String::from_str(alloc, "Literal"),
+        QueryKind::TextLength => String::from_str(alloc, "TextLength"),
+        QueryKind::Depth => String::from_str(alloc, "Depth"),
+        QueryKind::ListLength => String::from_str(alloc, "ListLength"),
         QueryKind::Unknown(name) => {
             let name = name.as_str();
             format!(in alloc; "Unknown {name}")
+        }
+        QueryKind::WrongType(name) => {
+            let name = name.as_str();
+            format!(in alloc; "WrongType {name}")
         }
     }
 }
@@ -248,6 +255,7 @@ fn damage_kind(kind: DamageKind) -> &'static str
         DamageKind::Missing => "Missing",
         DamageKind::Text => "Text",
         DamageKind::Length => "Length",
+        DamageKind::Mask => "Mask",
     }
 }
 
@@ -256,7 +264,11 @@ fn limit_kind(what: LimitKind) -> &'static str
     ensures { result.now ≡ limit_word what }
 {
     match what {
+        LimitKind::Rows => "rows",
         LimitKind::Input => "input",
+        LimitKind::Session => "session",
+        LimitKind::Parts => "parts",
+        LimitKind::Numbers => "numbers",
     }
 }
 

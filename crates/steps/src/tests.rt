@@ -17,5 +17,5 @@ fn two_ticks<L: Ledger>(blank: Blank) -> usize
 
 #[test]
 fn takes_no_bytes(rt: HostRuntime) {
-    assert_eq!(rt; two_ticks::<Brand>(Blank::new(1)), 0);
+    assert_eq!(rt; two_ticks::<Brand>(rt.blank()), 0);
 }

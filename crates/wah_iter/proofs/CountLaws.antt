@@ -6,18 +6,7 @@ use Rattle.wah_words.specs.Left.{Left, run_values, Comes}
 use Rattle.wah_words.specs.declared.run.Run.{Run}
 use Rattle.wah_words.specs.declared.run.Run.TheVariants.{Fill, Literal, Tail}
 use Rattle.wah_iter.specs.Runs.{Fits}
-use Rattle.wah_iter.proofs.PlacesLaws.{ones_cons}
-
-pub ones_true : (n : ℕ) → count_by (λ b. b) (replicate n true) ≡ n
-ones_true zero = refl
-ones_true (suc n) = ones_cons true (replicate n true) ∙ omega (arith, ones_true n)
-
-pub ones_false : (n : ℕ) → count_by (λ b. b) (replicate n false) ≡ 0
-ones_false zero = refl
-ones_false (suc n) = ones_cons false (replicate n false) ∙ omega (arith, ones_false n)
-
-pub ones-append : (v w : List Bool) → count_by (λ b. b) (v ++ w) ≡ count_by (λ b. b) v + count_by (λ b. b) w
-ones-append v w = sum_by-append _ v w
+use Rattle.wah_words.proofs.OnesLemmas.{ones-append}
 
 -- the run that comes fits, and so do its values and what is left
 pub fits_comes : (old : Left) (run : Run) (new : Left) → Comes old (Some run) new → length old.values ≤ 4194304 → Fits run
@@ -28,6 +17,3 @@ fits_comes old (Tail bits count) new h limit = (h.2.1, h.2.2)
 
 pub length_comes : (old : Left) (run : Run) (new : Left) → Comes old (Some run) new → length old.values ≡ length (run_values run) + length new.values
 length_comes old run new h = ap length h.0 ∙ length-append (run_values run) new.values
-
-pub ones_comes : (old : Left) (run : Run) (new : Left) → Comes old (Some run) new → count_by (λ b. b) old.values ≡ count_by (λ b. b) (run_values run) + count_by (λ b. b) new.values
-ones_comes old run new h = ap (λ v. count_by (λ b. b) v) h.0 ∙ ones-append (run_values run) new.values

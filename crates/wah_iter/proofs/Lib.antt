@@ -1,3 +1,4 @@
+pub mod PackLaws
 pub mod PlacesLaws
 pub mod CountLaws
 pub mod AppendLaws
@@ -5,3 +6,4 @@ pub mod RowLaws
 pub mod WalkLaws
 pub mod RunLaws
 pub mod ApartLaws
+pub mod RangeLaws

@@ -30,28 +30,6 @@ get_or-places zero n i h = absurd (omega arith)
 get_or-places (suc c) n zero h = let e : suc c - 1 - 0 ≡ c = omega arith in rw e refl
 get_or-places (suc c) n (suc i) h = let e : suc c - 1 - suc i ≡ c - 1 - i = omega arith in rw e (get_or-places c n i (omega arith))
 
-one_bit : (x : ℕ) → x < 2 → cond (eqb x 1) 1 0 ≡ count_ones x
-unfolding count_ones lib.Count.ones_in
-one_bit zero h = refl
-one_bit (suc zero) h = refl
-one_bit (suc (suc x)) h = absurd (omega arith)
-
-pub ones_cons : (b : Bool) (v : List Bool) → count_by (λ b. b) (b ∷ v) ≡ cond b 1 0 + count_by (λ b. b) v
-ones_cons b v = sum_by-append (λ x. cond x 1 0) (b ∷ []) v ∙ ap (λ x. x + count_by (λ b. b) v) (zero-add (cond b 1 0))
-
-ones_mod : (c n : ℕ) → count_by (λ b. b) (places c n) ≡ count_ones (n % 2 ^ c)
-unfolding places count_ones lib.Count.ones_in
-ones_mod zero n = let e : n % 2 ^ 0 ≡ 0 = omega arith in sym (ap (λ x. count_ones x) e)
-ones_mod (suc c) n =
-    let e : suc c ≡ 1 + c = omega arith in
-    let low : n / 2 ^ c % 2 < 2 = mod_below (n / 2 ^ c) 2 (lit< tt) in
-    let split : n % 2 ^ suc c ≡ (n / 2 ^ c % 2) * 2 ^ c + n % 2 ^ c = rw e (mod-pow-add n 1 c) in
-    let sum = ones_cat c (n / 2 ^ c % 2) (n % 2 ^ c) (mod_below n (2 ^ c) (pow_pos c)) in
-    ones_cons (eqb (n / 2 ^ c % 2) 1) (places c n) ∙ ap (λ x. x + count_by (λ b. b) (places c n)) (one_bit (n / 2 ^ c % 2) low) ∙ ap (λ x. count_ones (n / 2 ^ c % 2) + x) (ones_mod c n) ∙ sym (ap (λ x. count_ones x) split ∙ sum)
-
-pub ones-places : (c n : ℕ) → n < 2 ^ c → count_by (λ b. b) (places c n) ≡ count_ones n
-ones-places c n h = ones_mod c n ∙ ap (λ x. count_ones x) (mod-eq_of_lt h)
-
 pub take-drop_parts : (a b c : List Bool) (n m : ℕ) → length a ≡ n → length b ≡ m → take m (drop n (a ++ (b ++ c))) ≡ b
 take-drop_parts a b c n m e f = ap (take m) (drop_at a (b ++ c) n e) ∙ take_at b c m f
 

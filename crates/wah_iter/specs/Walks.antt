@@ -1,5 +1,6 @@
 -- What a walk over the ones of a vector has still to give.
 use Rattle.std.specs.Prelude.{◌≡◌, ℕ, ◌+◌, ◌-◌, ◌*◌, ◌%◌, ◌^◌, ◌<◌, ◌≤◌, Bool, true, List, [], ◌∷◌, ◌++◌, replicate, Option, None, Some}
+use Rattle.wah_words.specs.Limits.{most_bits}
 use Rattle.wah_words.specs.Places.{places}
 use Rattle.wah_iter.specs.Rows.{rows_from, runs_from}
 
@@ -12,7 +13,7 @@ pub record IsPiece (word base next end : ℕ) : Type 0 where
   pub word_fits : word < 2147483648
   pub base_first : base ≤ end
   pub next_first : next ≤ end
-  pub within : end ≤ 4194304
+  pub within : end ≤ most_bits
 
 -- a walk's rows and words that are still to come
 pub record RowsLeft : Type 0 where

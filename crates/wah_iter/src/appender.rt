@@ -1,5 +1,6 @@
 //! A vector that grows by words at any place, also within a group.
 ghost use Rattle.std.specs.Prelude.{◌≡◌, ◌+◌, ◌-◌, ◌*◌, ◌/◌, ◌%◌, ◌^◌, ◌<◌, ◌≤◌, [], ◌++◌, length, min, replicate, IfOk};
+ghost use Rattle.wah_words.specs.Limits.{most_bits};
 ghost use Rattle.wah_words.specs.Places.{places};
 
 use std::alloc::{AllocError, Global};
@@ -16,6 +17,7 @@ pub(crate) struct Appender {
 
 impl Model for Appender {
     ghost use Rattle.std.specs.Prelude.{◌≡◌, ◌+◌, ◌%◌, ◌^◌, ◌<◌, ◌≤◌, ◌++◌, length};
+    ghost use Rattle.wah_words.specs.Limits.{most_bits};
     ghost use Rattle.wah_words.specs.Places.{places};
     ghost use Rattle.wah_iter.specs.Appended.{Appended};
 
@@ -23,7 +25,7 @@ impl Model for Appender {
 
     ghost view = { λ s. record { values = s.out.values ++ places s.count s.part; spare = s.out.spare } };
 
-    ghost invariant = { λ s. (length s.out.values % 31 ≡ 0) × (s.count < 31) × (s.part < 2 ^ s.count) × (length s.out.values + s.count ≤ 4194304) };
+    ghost invariant = { λ s. (length s.out.values % 31 ≡ 0) × (s.count < 31) × (s.part < 2 ^ s.count) × (length s.out.values + s.count ≤ most_bits) };
 }
 
 /// So many equal values as a number.
@@ -64,7 +66,7 @@ impl Appender {
     pub(crate) fn append_bits(&mut self, bits: u32, count: u32)
         requires few { count ≤ 31 }
         requires fits { bits < 2 ^ count }
-        requires limit { length self.old.values + count ≤ 4194304 }
+        requires limit { length self.old.values + count ≤ most_bits }
         requires room { (length self.old.values + count) / 31 ≤ self.old.spare + length self.old.values / 31 }
         ensures values { self.new.values ≡ self.old.values ++ places count bits }
         ensures spare { self.old.spare + length self.old.values / 31 ≤ self.new.spare + (length self.old.values + count) / 31 }
@@ -86,7 +88,7 @@ impl Appender {
     #[inline(always)]
     fn append_groups(&mut self, bit: bool, count: u32)
         requires aligned { length self.old.values % 31 ≡ 0 }
-        requires limit { length self.old.values + count ≤ 4194304 }
+        requires limit { length self.old.values + count ≤ most_bits }
         requires room { min 1 (count / 31) ≤ self.old.spare }
         ensures values { self.new.values ≡ self.old.values ++ replicate count bit }
         ensures spare { self.old.spare ≤ self.new.spare + min 1 (count / 31) }
@@ -102,7 +104,7 @@ impl Appender {
     /// Appends equal values.
     #[inline(always)]
     pub(crate) fn append_fill(&mut self, bit: bool, count: u32)
-        requires limit { length self.old.values + count ≤ 4194304 }
+        requires limit { length self.old.values + count ≤ most_bits }
         requires room { min 2 ((length self.old.values + count) / 31 - length self.old.values / 31) ≤ self.old.spare }
         ensures values { self.new.values ≡ self.old.values ++ replicate count bit }
         ensures spare { self.old.spare ≤ self.new.spare + min 2 ((length self.old.values + count) / 31 - length self.old.values / 31) }

@@ -7,23 +7,6 @@ use std::sync::ledger::Ledger;
 use steps::Steps;
 use wah_words::{Run, Wah};
 
-/// How many values of the run are true.
-#[inline(always)]
-fn ones_of(run: Run) -> u32
-    requires { Fits run }
-    ensures { result ≡ count_by (λ b. b) (run_values run) }
-{
-    match run {
-        Run::Fill { bit: true, groups } => 31 * groups,
-        Run::Fill {
-            bit: false,
-            groups: _,
-        } => 0,
-        Run::Literal(word) => word.count_ones(),
-        Run::Tail { bits, count: _ } => bits.count_ones(),
-    }
-}
-
 /// How many values of the vector are true.
 pub fn count_ones<L: Ledger>(v: &Wah, steps: &mut Steps<L>) -> u64
     ensures count { result ≡ count_by (λ b. b) v.now }
@@ -31,8 +14,8 @@ pub fn count_ones<L: Ledger>(v: &Wah, steps: &mut Steps<L>) -> u64
 {
     let mut cursor = v.cursor();
     let mut count = 0;
-    while let Some(run) = cursor.advance(steps) {
-        count += u64::from(ones_of(run));
+    while let Some(ones) = cursor.advance_count(steps) {
+        count += ones;
     }
     count
 }

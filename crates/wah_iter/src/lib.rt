@@ -5,12 +5,14 @@ mod appender;
 mod counts;
 mod laws;
 mod making;
+mod packing;
 mod piece;
 mod walks;
 
 pub use counts::{count_ones, get};
 pub use laws::maximal_runs;
-pub use making::{concat, from_rows, slice};
+pub use making::{concat, slice};
+pub use packing::from_rows;
 pub use walks::{OneWalk, RowRuns, ones, row_runs};
 
 #[cfg(test)]

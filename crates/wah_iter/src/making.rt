@@ -1,9 +1,9 @@
-ghost use Rattle.std.specs.Prelude.{◌≡◌, ℕ, ◌+◌, ◌-◌, ◌*◌, ◌/◌, ◌^◌, ◌<◌, ◌≤◌, ◌++◌, length, take, drop, min, slice_index, slice_range, IfOk};
+ghost use Rattle.std.specs.Prelude.{◌≡◌, ℕ, ◌+◌, ◌-◌, ◌*◌, ◌/◌, ◌^◌, ◌<◌, ◌≤◌, ◌++◌, length, take, drop, min, slice_range, IfOk};
+ghost use Rattle.wah_words.specs.Limits.{most_bits};
 ghost use Rattle.wah_words.specs.Places.{places};
 ghost use Rattle.wah_words.specs.Spelling.{words_of};
 ghost use Rattle.wah_words.specs.Left.{run_values};
 ghost use Rattle.wah_iter.specs.Runs.{Fits};
-ghost use Rattle.wah_iter.specs.Rows.{rows_of};
 
 use crate::appender::Appender;
 use crate::counts::len_of;
@@ -11,32 +11,6 @@ use std::alloc::{AllocError, Global};
 use std::sync::ledger::Ledger;
 use steps::Steps;
 use wah_words::{Run, Wah};
-
-/// The vector of `len` values that is true exactly at these rows.
-pub fn from_rows(alloc: Global, rows: &[u32], len: u32) -> Result<Wah, AllocError>
-    requires rising { (i : ℕ) → i + 1 < length rows.now → slice_index rows.now i < slice_index rows.now (i + 1) }
-    requires below { (i : ℕ) → i < length rows.now → slice_index rows.now i < len }
-    requires limit { len ≤ 4194304 }
-    ensures length { IfOk result (λ v. length v ≡ len) }
-    ensures rows { IfOk result (λ v. rows_of v ≡ rows.now) }
-{
-    let groups = len / 31;
-    // a row ends at most three words: a literal, a fill of zeros and the row's own group
-    let room = if rows.len() < groups as usize / 3 {
-        3 * rows.len() as u32 + 2
-    } else {
-        groups
-    };
-    let mut out = Appender::with_room(alloc, room)?;
-    let mut next = 0;
-    for row in rows {
-        out.append_fill(false, *row - next);
-        out.append_bits(1, 1);
-        next = *row + 1;
-    }
-    out.append_fill(false, len - next);
-    Ok(out.finish())
-}
 
 /// Of `total` places of a number, `count` from the first-th on, the highest being place 0.
 #[inline(always)]
@@ -54,7 +28,7 @@ fn part_of(bits: u32, total: u32, first: u32, count: u32) -> u32
 fn append_part(out: &mut Appender, run: Run, first: u32, count: u32)
     requires fits { Fits run }
     requires within { first + count ≤ length (run_values run) }
-    requires limit { length out.old.values + count ≤ 4194304 }
+    requires limit { length out.old.values + count ≤ most_bits }
     requires room { min 2 ((length out.old.values + count) / 31 - length out.old.values / 31) ≤ out.old.spare }
     ensures values { out.new.values ≡ out.old.values ++ take count (drop first (run_values run)) }
     ensures spare { out.old.spare ≤ out.new.spare + min 2 ((length out.old.values + count) / 31 - length out.old.values / 31) }
@@ -77,7 +51,7 @@ fn append_slice<L: Ledger>(
     steps: &mut Steps<L>,
 )
     requires within { first + count ≤ length v.now }
-    requires limit { length out.old.values + count ≤ 4194304 }
+    requires limit { length out.old.values + count ≤ most_bits }
     requires room { min (2 * words_of v.now) ((length out.old.values + count) / 31 - length out.old.values / 31) ≤ out.old.spare }
     ensures values { out.new.values ≡ out.old.values ++ take count (drop first v.now) }
     ensures spare { out.old.spare ≤ out.new.spare + min (2 * words_of v.now) ((length out.old.values + count) / 31 - length out.old.values / 31) }
@@ -113,7 +87,7 @@ pub fn concat<L: Ledger>(
     b: &Wah,
     steps: &mut Steps<L>,
 ) -> Result<Wah, AllocError>
-    requires { length a.now + length b.now ≤ 4194304 }
+    requires { length a.now + length b.now ≤ most_bits }
     ensures joined { IfOk result (λ v. v ≡ a.now ++ b.now) }
     ensures steps { steps.new ≤ steps.old + words_of a.now + words_of b.now }
 {

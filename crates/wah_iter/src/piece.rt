@@ -1,5 +1,6 @@
 //! The ones of one word.
 ghost use Rattle.std.specs.Prelude.{◌≡◌, ◌+◌, ◌-◌, ◌*◌, ◌^◌, ◌<◌, ◌≤◌, ℕ, List, [], ◌∷◌, ◌++◌, ◌⊎◌, true, false, length, replicate};
+ghost use Rattle.wah_words.specs.Limits.{most_bits};
 ghost use Rattle.wah_words.specs.Places.{places};
 ghost use Rattle.wah_words.specs.Left.{run_values};
 ghost use Rattle.wah_iter.specs.Runs.{Fits};
@@ -24,7 +25,7 @@ pub(crate) struct Piece {
 #[inline(always)]
 fn piece_of(run: Run, row: u32) -> Piece
     requires fits { Fits run }
-    requires limit { row + length (run_values run) ≤ 4194304 }
+    requires limit { row + length (run_values run) ≤ most_bits }
     ensures piece { IsPiece result.word result.base result.next result.end }
     ensures end { result.end ≡ row + length (run_values run) }
     ensures rows { rows_from result.base (places 31 result.word) ++ rows_from result.next (replicate (result.end - result.next) true) ≡ rows_from row (run_values run) }
@@ -64,9 +65,9 @@ pub(crate) fn find_one<L: Ledger>(
     steps: &mut Steps<L>,
 ) -> bool
     requires piece { IsPiece piece.old.word piece.old.base piece.old.next piece.old.end }
-    requires limit { piece.old.end + length cursor.old.values ≤ 4194304 }
+    requires limit { piece.old.end + length cursor.old.values ≤ most_bits }
     ensures piece { IsPiece piece.new.word piece.new.base piece.new.next piece.new.end }
-    ensures limit { piece.new.end + length cursor.new.values ≤ 4194304 }
+    ensures limit { piece.new.end + length cursor.new.values ≤ most_bits }
     ensures rows { rows_left piece.new.word piece.new.base piece.new.next piece.new.end cursor.new.values ≡ rows_left piece.old.word piece.old.base piece.old.next piece.old.end cursor.old.values }
     ensures runs { runs_left piece.new.word piece.new.base piece.new.next piece.new.end cursor.new.values ≡ runs_left piece.old.word piece.old.base piece.old.next piece.old.end cursor.old.values }
     ensures found { result ≡ true → (0 < piece.new.word) ⊎ (piece.new.next < piece.new.end) }

@@ -1,11 +1,12 @@
-ghost use Rattle.std.specs.Prelude.{◌≡◌, ◌<◌};
+ghost use Rattle.std.specs.Prelude.{◌≡◌, ◌-◌, ◌<◌, ◌≤◌, IfOk};
+ghost use Rattle.std.specs.List.{range_with_len};
 
 use super::*;
 use std::alloc::{AllocError, Global};
 use std::marker::Brand;
-use std::sync::ledger::{Blank, Ledger};
+use std::sync::ledger::Ledger;
 use std::test::Fail;
-use steps::Steps;
+use steps::{Blank, Count, Steps};
 use wah_words::{Builder, MAX_LEN, Wah};
 
 /// The vector of these runs of values, where there is room for them.
@@ -132,17 +133,79 @@ fn bytes_of<L: Ledger>(blank: Blank, alloc: Global, v: &Wah) -> Result<Vec<u8>, 
 #[test]
 fn rows_make_a_vector_and_a_vector_rows(rt: HostRuntime) -> Result<(), Fail> {
     let few = from_rows(rt.alloc(), &[0, 2], 5)?;
-    let bytes = bytes_of::<Brand>(Blank::new(1), rt.alloc(), &few)?;
+    let bytes = bytes_of::<Brand>(rt.blank(), rt.alloc(), &few)?;
     assert_eq!(rt;
         bytes.as_slice(),
         [5, 0, 0, 0, 0, 0, 0, 0, 0x14, 0, 0, 0].as_slice()
     );
-    let look = look_at::<Brand>(Blank::new(1), rt.alloc(), &few)?;
+    let look = look_at::<Brand>(rt.blank(), rt.alloc(), &few)?;
     assert_eq!(rt; look.count, 2);
     assert_eq!(rt; look.rows.as_slice(), [0, 2].as_slice());
     assert_eq!(rt; look.runs.as_slice(), [(0, 1), (2, 3)].as_slice());
-    assert_eq!(rt; value_at::<Brand>(Blank::new(1), &few, 1), Some(false));
-    assert_eq!(rt; value_at::<Brand>(Blank::new(1), &few, 2), Some(true));
+    assert_eq!(rt; value_at::<Brand>(rt.blank(), &few, 1), Some(false));
+    assert_eq!(rt; value_at::<Brand>(rt.blank(), &few, 2), Some(true));
+    Ok(())
+}
+
+/// The words 40000000, 40000000 and 80000001, and the active word 40.
+#[test]
+fn rows_are_kept_as_words(rt: HostRuntime) -> Result<(), Fail> {
+    let starts = from_rows(rt.alloc(), &[0, 31, 93], 100)?;
+    let bytes = bytes_of::<Brand>(rt.blank(), rt.alloc(), &starts)?;
+    let want = [
+        100, 0, 0, 0, 3, 0, 0, 0, 0, 0, 0, 0x40, 0, 0, 0, 0x40, 1, 0, 0, 0x80, 0x40, 0, 0, 0,
+    ];
+    assert_eq!(rt; bytes.as_slice(), want.as_slice());
+    Ok(())
+}
+
+/// The rows from the first up to but not with `past`.
+fn rows_between(alloc: Global, first: u32, past: u32) -> Result<Vec<u32>, AllocError>
+    requires { first ≤ past }
+    ensures { IfOk result (λ v. v.items ≡ range_with_len first (past - first)) }
+{
+    let mut rows = Vec::new(alloc);
+    for row in first..past {
+        rows.push(row)?;
+    }
+    Ok(rows)
+}
+
+/// The vector of 100 values that is true in these rows.
+fn true_between(alloc: Global, first: u32, past: u32) -> Result<Option<Wah>, AllocError>
+    requires { first ≤ past }
+{
+    if past > 100 {
+        return Ok(None);
+    }
+    let rows = rows_between(alloc, first, past)?;
+    Ok(Some(from_rows(alloc, &rows, 100)?))
+}
+
+/// Whole groups and none; all of them; a group without its first row, two whole ones, and one row more.
+#[test]
+fn rows_that_follow_each_other_are_fills(rt: HostRuntime) -> Result<(), Fail> {
+    let table: [(u32, u32, &[u8]); 3] = [
+        (7, 7, &[100, 0, 0, 0, 1, 0, 0, 0, 3, 0, 0, 0x80, 0, 0, 0, 0]),
+        (
+            0,
+            93,
+            &[100, 0, 0, 0, 1, 0, 0, 0, 3, 0, 0, 0xC0, 0, 0, 0, 0],
+        ),
+        (
+            1,
+            94,
+            &[
+                100, 0, 0, 0, 2, 0, 0, 0, 0xFF, 0xFF, 0xFF, 0x3F, 2, 0, 0, 0xC0, 0x40, 0, 0, 0,
+            ],
+        ),
+    ];
+    for (first, past, want) in table {
+        assert!(rt; first <= past);
+        let vector = true_between(rt.alloc(), first, past)?.ok_or("too far")?;
+        let bytes = bytes_of::<Brand>(rt.blank(), rt.alloc(), &vector)?;
+        assert_eq!(rt; bytes.as_slice(), want);
+    }
     Ok(())
 }
 
@@ -174,10 +237,10 @@ fn walks_give_rows_and_runs(rt: HostRuntime) -> Result<(), Fail> {
     ];
     for (values, want) in table {
         let vector = built(rt.alloc(), values)?.ok_or("no room")?;
-        let look = look_at::<Brand>(Blank::new(1), rt.alloc(), &vector)?;
+        let look = look_at::<Brand>(rt.blank(), rt.alloc(), &vector)?;
         assert_eq!(rt; look.runs.as_slice(), want);
         assert_eq!(rt; look.count, look.rows.len() as u64);
-        let again = value_at::<Brand>(Blank::new(1), &vector, vector.len());
+        let again = value_at::<Brand>(rt.blank(), &vector, vector.len());
         assert_eq!(rt; again, None);
     }
     Ok(())
@@ -222,12 +285,12 @@ fn parts_are_the_values(rt: HostRuntime) -> Result<(), Fail> {
     ];
     for (values, first, end, want) in table {
         let vector = built(rt.alloc(), values)?.ok_or("no room")?;
-        let parts = parts_of::<Brand>(Blank::new(1), rt.alloc(), &vector, first, end)?.ok_or(
+        let parts = parts_of::<Brand>(rt.blank(), rt.alloc(), &vector, first, end)?.ok_or(
             "no part",
         )?;
         assert_eq!(rt; parts.whole.as_slice(), parts.all.as_slice());
         let wanted = built(rt.alloc(), want)?.ok_or("no room")?;
-        let bytes = bytes_of::<Brand>(Blank::new(1), rt.alloc(), &wanted)?;
+        let bytes = bytes_of::<Brand>(rt.blank(), rt.alloc(), &wanted)?;
         assert_eq!(rt; parts.part.as_slice(), bytes.as_slice());
     }
     Ok(())

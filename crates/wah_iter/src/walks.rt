@@ -19,13 +19,14 @@ pub struct OneWalk<'a> {
 
 impl<'a> Model for OneWalk<'a> {
     ghost use Rattle.std.specs.Prelude.{◌+◌, ◌≤◌, length};
+    ghost use Rattle.wah_words.specs.Limits.{most_bits};
     ghost use Rattle.wah_iter.specs.Walks.{rows_left, IsPiece, RowsLeft};
 
     ghost Value = { RowsLeft };
 
     ghost view = { λ s. record { rows = rows_left s.piece.word s.piece.base s.piece.next s.piece.end s.cursor.values; words = s.cursor.words } };
 
-    ghost invariant = { λ s. IsPiece s.piece.word s.piece.base s.piece.next s.piece.end × (s.piece.end + length s.cursor.values ≤ 4194304) };
+    ghost invariant = { λ s. IsPiece s.piece.word s.piece.base s.piece.next s.piece.end × (s.piece.end + length s.cursor.values ≤ most_bits) };
 }
 
 /// A walk over the rows at which the vector is true.
@@ -70,13 +71,14 @@ pub struct RowRuns<'a> {
 
 impl<'a> Model for RowRuns<'a> {
     ghost use Rattle.std.specs.Prelude.{◌+◌, ◌≤◌, length};
+    ghost use Rattle.wah_words.specs.Limits.{most_bits};
     ghost use Rattle.wah_iter.specs.Walks.{runs_left, IsPiece, RunsLeft};
 
     ghost Value = { RunsLeft };
 
     ghost view = { λ s. record { runs = runs_left s.piece.word s.piece.base s.piece.next s.piece.end s.cursor.values; words = s.cursor.words } };
 
-    ghost invariant = { λ s. IsPiece s.piece.word s.piece.base s.piece.next s.piece.end × (s.piece.end + length s.cursor.values ≤ 4194304) };
+    ghost invariant = { λ s. IsPiece s.piece.word s.piece.base s.piece.next s.piece.end × (s.piece.end + length s.cursor.values ≤ most_bits) };
 }
 
 /// A walk over the runs of rows at which the vector is true.

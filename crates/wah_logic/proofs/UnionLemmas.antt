@@ -1,10 +1,12 @@
 -- Unions.
-use Rattle.std.proofs.Common.{◌≡◌, ℕ, zero, suc, ◌+◌, ◌*◌, ◌/◌, ◌%◌, ◌<◌, ◌≤◌, Bool, true, false, List, [], ◌∷◌, ◌++◌, length, drop, get_or, replicate, All, refl, sym, ap, ◌∙◌, arith}
-use Rattle.std.proofs.lemmas.List.{length-replicate, replicate-append-replicate, drop_more, drop_all, append-nil}
-use Rattle.std.proofs.lemmas.List.Elements.{All-drop}
+use Rattle.std.proofs.Common.{◌≡◌, ℕ, zero, suc, ◌+◌, ◌-◌, ◌*◌, ◌/◌, ◌%◌, ◌^◌, ◌<◌, ◌≤◌, Bool, true, false, List, [], ◌∷◌, ◌++◌, length, take, drop, map, get_or, replicate, All, Result, Ok, Err, OnOk, OnErr, refl, sym, ap, subst, ◌∙◌, arith}
+use Rattle.std.proofs.lemmas.List.{length-replicate, replicate-append-replicate, drop_more, drop_all, append-nil, map-append, take-map, drop-map}
+use Rattle.std.proofs.lemmas.List.Elements.{All-drop, All-take}
+use Rattle.std.proofs.lemmas.List.Sums.{sum_by-append}
+use Rattle.std.proofs.Math.Nat.{pow-succ', mul-le-mul_left, mul-le-mul_right}
 use Rattle.wah_words.specs.Spelling.{words_of}
 use Rattle.wah_words.proofs.SpellingLemmas.{words_of_le}
-use Rattle.wah_logic.specs.Logic.{each_place, or, union, groups_and_rest}
+use Rattle.wah_logic.specs.Logic.{each_place, or, union, groups_and_rest, words_in}
 use Rattle.wah_logic.proofs.JoinLemmas.{length-each}
 
 or_assoc : (x y z : Bool) → or (or x y) z ≡ or x (or y z)
@@ -47,42 +49,169 @@ unfolding union
 length-union len [] h = length-replicate len false
 length-union len (v ∷ vs) h = length-each or v (union len vs) (head_long len v vs h ∙ sym (length-union len vs (tail_long len v vs h))) ∙ head_long len v vs h
 
--- one vector more
-pub union_more : (len : ℕ) (all v u : List Bool) (vs rest : List (List Bool)) → rest ≡ v ∷ vs → All (λ x. length x ≡ len) rest → length all ≡ len → each_place or all (union len rest) ≡ u → each_place or (each_place or all v) (union len vs) ≡ u
-unfolding union
-union_more len all v u vs rest e each h was =
-    let each' : All (λ x. length x ≡ len) (v ∷ vs) = rw e at each in
-    let was' : each_place or all (each_place or v (union len vs)) ≡ u = rw e at was in
-    let long = head_long len v vs each' in
-    each_or_assoc all v (union len vs) (h ∙ sym long) (long ∙ sym (length-union len vs (tail_long len v vs each'))) ∙ was'
-
-pub union_none : (len : ℕ) (all : List Bool) → length all ≡ len → each_place or all (union len []) ≡ all
-unfolding union
-union_none len all h = each_zeros_right len all h
-
 pub words_few : (len : ℕ) (v : List Bool) → length v ≡ len → words_of v ≤ groups_and_rest len
 words_few len v h = omega (arith, words_of_le v, h)
 
--- ---- the walk over the list
+-- ---- two lists of vectors
 
-pub at_item : (i : ℕ) (v : List Bool) (vs : List (List Bool)) → i < length vs → v ≡ get_or vs i v → drop i vs ≡ v ∷ drop (i + 1) vs
-at_item i v vs h e = drop_more vs i v h ∙ ap (λ x. x ∷ drop (i + 1) vs) (sym e)
+pub union-append : (len : ℕ) (vs ws : List (List Bool)) → All (λ v. length v ≡ len) vs → All (λ v. length v ≡ len) ws → union len (vs ++ ws) ≡ each_place or (union len vs) (union len ws)
+unfolding union
+union-append len [] ws h k = sym (each_zeros_left len (union len ws) (length-union len ws k))
+union-append len (v ∷ vs) ws h k =
+    let long = head_long len v vs h in
+    let all = tail_long len v vs h in
+    ap (λ u. each_place or v u) (union-append len vs ws all k) ∙ sym (each_or_assoc v (union len vs) (union len ws) (long ∙ sym (length-union len vs all)) (length-union len vs all ∙ sym (length-union len ws k)))
 
-pub length-item : (len i : ℕ) (v : List Bool) (vs : List (List Bool)) → All (λ x. length x ≡ len) vs → drop i vs ≡ v ∷ drop (i + 1) vs → length v ≡ len
-length-item len i v vs h e =
-    let all : All (λ x. length x ≡ len) (v ∷ drop (i + 1) vs) = rw e at (All-drop (λ x. length x ≡ len) i vs h) in
-    head_long len v (drop (i + 1) vs) all
+pub union-one : (len : ℕ) (v : List Bool) → length v ≡ len → union len (v ∷ []) ≡ v
+unfolding union
+union-one len v h = each_zeros_right len v h
 
-pub union_next : (len i : ℕ) (all v u : List Bool) (vs : List (List Bool)) → drop i vs ≡ v ∷ drop (i + 1) vs → All (λ x. length x ≡ len) vs → length all ≡ len → each_place or all (union len (drop i vs)) ≡ u → each_place or (each_place or all v) (union len (drop (i + 1) vs)) ≡ u
-union_next len i all v u vs e each h was = union_more len all v u (drop (i + 1) vs) (drop i vs) e (All-drop (λ x. length x ≡ len) i vs each) h was
+pub union-two : (len : ℕ) (v w : List Bool) → length w ≡ len → union len (v ∷ w ∷ []) ≡ each_place or v w
+unfolding union
+union-two len v w h = ap (λ u. each_place or v u) (each_zeros_right len w h)
 
-pub union_ends : (len i : ℕ) (all u : List Bool) (vs : List (List Bool)) → length vs ≤ i → length all ≡ len → each_place or all (union len (drop i vs)) ≡ u → all ≡ u
-union_ends len i all u vs h same was = sym (union_none len all same) ∙ ap (λ l. each_place or all (union len l)) (sym (drop_all i vs h)) ∙ was
+pub union-three : (len : ℕ) (v w x : List Bool) → length x ≡ len → union len (v ∷ w ∷ x ∷ []) ≡ each_place or v (each_place or w x)
+unfolding union
+union-three len v w x h = ap (λ u. each_place or v (each_place or w u)) (each_zeros_right len x h)
 
-pub more_steps : (g i s t n : ℕ) → s ≤ n + 2 * g * i → t ≤ s + 2 * g → t ≤ n + 2 * g * (i + 1)
-more_steps g i s t n h k =
-    let e : 2 * g * (i + 1) ≡ 2 * g * i + 2 * g = grind arith in
-    omega (arith, h, k, e)
+pub union-none : (len : ℕ) → union len [] ≡ replicate len false
+unfolding union
+union-none len = refl
+
+-- ---- a list of few, by its elements
+
+pub one_item : {X : Type 0} (list : List X) (a : X) → length list ≡ 1 → a ≡ get_or list 0 a → list ≡ a ∷ []
+one_item [] a h e = absurd (omega arith)
+one_item (x ∷ []) a h e = ap (λ y. y ∷ []) (sym e)
+one_item (x ∷ y ∷ l) a h e = absurd (omega arith)
+
+pub two_items : {X : Type 0} (list : List X) (a b : X) → length list ≡ 2 → a ≡ get_or list 0 a → b ≡ get_or list 1 b → list ≡ a ∷ b ∷ []
+two_items [] a b h e k = absurd (omega arith)
+two_items (x ∷ []) a b h e k = absurd (omega arith)
+two_items (x ∷ y ∷ []) a b h e k = rw (sym e, sym k) refl
+two_items (x ∷ y ∷ z ∷ l) a b h e k = absurd (omega arith)
+
+pub three_items : {X : Type 0} (list : List X) (a b c : X) → length list ≡ 3 → a ≡ get_or list 0 a → b ≡ get_or list 1 b → c ≡ get_or list 2 c → list ≡ a ∷ b ∷ c ∷ []
+three_items [] a b c h e k l = absurd (omega arith)
+three_items (x ∷ []) a b c h e k l = absurd (omega arith)
+three_items (x ∷ y ∷ []) a b c h e k l = absurd (omega arith)
+three_items (x ∷ y ∷ z ∷ []) a b c h e k l = rw (sym e, sym k, sym l) refl
+three_items (x ∷ y ∷ z ∷ u ∷ m) a b c h e k l = absurd (omega arith)
+
+-- ---- digits
+
+pub one_digit : (d : ℕ) → 2 ≤ 2 ^ d → 1 ≤ d
+one_digit zero h = absurd (omega arith)
+one_digit (suc d) h = omega arith
+
+pub two_digits : (d : ℕ) → 3 ≤ 2 ^ d → 2 ≤ d
+two_digits zero h = absurd (omega arith)
+two_digits (suc zero) h = absurd (omega arith)
+two_digits (suc (suc d)) h = omega arith
+
+pub some_digits : (d k : ℕ) → 0 < k → k < 2 ^ d → 1 ≤ d
+some_digits zero k h l = absurd (omega arith)
+some_digits (suc d) k h l = omega arith
+
+-- each half has one digit less
+pub half_digits : (d k : ℕ) → 4 ≤ k → k ≤ 2 ^ d → (e : ℕ) × (d ≡ e + 1) × (k / 2 ≤ 2 ^ e) × (k - k / 2 ≤ 2 ^ e)
+half_digits zero k h l = absurd (omega arith)
+half_digits (suc e) k h l =
+    let p : 2 ^ suc e ≡ 2 * 2 ^ e = pow-succ' 2 e in
+    (e, omega arith, omega (arith, l, p), omega (arith, l, p))
+
+-- ---- both halves of a list
+
+pub all_front : {X : Type 0} (f : X → List Bool) (len n : ℕ) (list front : List X) → front ≡ take n list → All (λ v. length v ≡ len) (map f list) → All (λ v. length v ≡ len) (map f front)
+all_front f len n list front e h =
+    subst (λ vs. All (λ v. length v ≡ len) vs) (take-map f n list ∙ ap (map f) (sym e)) (All-take (λ v. length v ≡ len) n (map f list) h)
+
+pub all_back : {X : Type 0} (f : X → List Bool) (len n : ℕ) (list back : List X) → back ≡ drop n list → All (λ v. length v ≡ len) (map f list) → All (λ v. length v ≡ len) (map f back)
+all_back f len n list back e h =
+    subst (λ vs. All (λ v. length v ≡ len) vs) (drop-map f n list ∙ ap (map f) (sym e)) (All-drop (λ v. length v ≡ len) n (map f list) h)
+
+pub halves_union : {X : Type 0} (f : X → List Bool) (len n : ℕ) (list front back : List X) (u v : List Bool) → list ≡ front ++ back → front ≡ take n list → back ≡ drop n list → All (λ v. length v ≡ len) (map f list) → u ≡ union len (map f front) → v ≡ union len (map f back) → each_place or u v ≡ union len (map f list)
+halves_union f len n list front back u v e d k h a b =
+    let w = union-append len (map f front) (map f back) (all_front f len n list front d h) (all_back f len n list back k h) in
+    rw (a, b) (sym w) ∙ ap (union len) (sym (map-append f front back) ∙ ap (map f) (sym e))
+
+pub halves_words : {X : Type 0} (f : X → List Bool) (list front back : List X) → list ≡ front ++ back → words_in (map f list) ≡ words_in (map f front) + words_in (map f back)
+halves_words f list front back e =
+    ap words_in (ap (map f) e ∙ map-append f front back) ∙ sum_by-append words_of (map f front) (map f back)
+
+pub halves_long : {X : Type 0} (f : X → List Bool) (len n : ℕ) (list front back : List X) (u v : List Bool) → front ≡ take n list → back ≡ drop n list → All (λ v. length v ≡ len) (map f list) → u ≡ union len (map f front) → v ≡ union len (map f back) → (length u ≡ len) × (length v ≡ len)
+halves_long f len n list front back u v d k h a b =
+    (ap length a ∙ length-union len (map f front) (all_front f len n list front d h), ap length b ∙ length-union len (map f back) (all_back f len n list back k h))
+
+-- the digits of both halves make those of the list, where the union of both follows or not
+pub halves_digits : (d k s r t p q : ℕ) → 4 ≤ k → k ≤ 2 ^ d → ((e : ℕ) → k / 2 ≤ 2 ^ e → r ≤ s + e * p) → ((e : ℕ) → k - k / 2 ≤ 2 ^ e → t ≤ r + e * q) → t + p + q ≤ s + d * (p + q)
+halves_digits d k s r t p q h l a b =
+    let e = half_digits d k h l in
+    let x = a e.0 e.2 in
+    let y = b e.0 e.3 in
+    let z : (e.0 + 1) * (p + q) ≡ e.0 * p + e.0 * q + p + q = grind arith in
+    rw e.1 (omega (arith, x, y, z))
+
+pub halves_steps : (g s r t u f b k : ℕ) → f + b ≡ k → r + 2 * g ≤ s + 2 * g * f → t + 2 * g ≤ r + 2 * g * b → u ≤ t + 2 * g → u + 2 * g ≤ s + 2 * g * k
+halves_steps g s r t u f b k e h l m =
+    let z : 2 * g * (f + b) ≡ 2 * g * f + 2 * g * b = grind arith in
+    let w : 2 * g * (f + b) ≡ 2 * g * k = ap (λ n. 2 * g * n) e in
+    omega (arith, h, l, m, z, w)
+
+-- ---- two vectors, and three
+
+pub two_long : {X : Type 0} (f : X → List Bool) (len : ℕ) (list : List X) (a b : X) → list ≡ a ∷ b ∷ [] → All (λ v. length v ≡ len) (map f list) → (length (f a) ≡ len) × (length (f b) ≡ len)
+two_long f len list a b e h =
+    let all : All (λ v. length v ≡ len) (f a ∷ f b ∷ []) = rw e at h in
+    (all 0 (f a) (omega arith), all 1 (f b) (omega arith))
+
+pub three_long : {X : Type 0} (f : X → List Bool) (len : ℕ) (list : List X) (a b c : X) → list ≡ a ∷ b ∷ c ∷ [] → All (λ v. length v ≡ len) (map f list) → (length (f a) ≡ len) × (length (f b) ≡ len) × (length (f c) ≡ len)
+three_long f len list a b c e h =
+    let all : All (λ v. length v ≡ len) (f a ∷ f b ∷ f c ∷ []) = rw e at h in
+    (all 0 (f a) (omega arith), all 1 (f b) (omega arith), all 2 (f c) (omega arith))
+
+pub two_union : {X : Type 0} (f : X → List Bool) (len : ℕ) (list : List X) (a b : X) (u v : List Bool) → list ≡ a ∷ b ∷ [] → All (λ v. length v ≡ len) (map f list) → u ≡ f a → v ≡ f b → each_place or u v ≡ union len (map f list)
+two_union f len list a b u v e h k l =
+    rw (k, l) (sym (union-two len (f a) (f b) (two_long f len list a b e h).1)) ∙ ap (λ l. union len (map f l)) (sym e)
+
+pub three_union : {X : Type 0} (f : X → List Bool) (len : ℕ) (list : List X) (a b c : X) (u v : List Bool) → list ≡ a ∷ b ∷ c ∷ [] → All (λ v. length v ≡ len) (map f list) → u ≡ f a → v ≡ each_place or (f b) (f c) → each_place or u v ≡ union len (map f list)
+three_union f len list a b c u v e h k l =
+    rw (k, l) (sym (union-three len (f a) (f b) (f c) (three_long f len list a b c e h).2)) ∙ ap (λ l. union len (map f l)) (sym e)
+
+pub two_words : {X : Type 0} (f : X → List Bool) (list : List X) (a b : X) → list ≡ a ∷ b ∷ [] → words_in (map f list) ≡ words_of (f a) + words_of (f b)
+two_words f list a b e = rw e (omega arith)
+
+pub three_words : {X : Type 0} (f : X → List Bool) (list : List X) (a b c : X) → list ≡ a ∷ b ∷ c ∷ [] → words_in (map f list) ≡ words_of (f a) + words_of (f b) + words_of (f c)
+three_words f list a b c e = rw e (omega arith)
+
+pub so_many_times : (n d w s t : ℕ) → n ≤ d → t ≤ s + n * w → t ≤ s + d * w
+so_many_times n d w s t h k = omega (arith, k, mul-le-mul_right w h)
+
+-- n operations on k vectors
+pub few_steps : (g n k s t : ℕ) → n + 1 ≤ k → t ≤ s + 2 * g * n → t + 2 * g ≤ s + 2 * g * k
+few_steps g n k s t h l =
+    let z : 2 * g * (n + 1) ≡ 2 * g * n + 2 * g = grind arith in
+    omega (arith, l, z, mul-le-mul_left (2 * g) h)
+
+pub one_words : {X : Type 0} (f : X → List Bool) (list : List X) (a : X) → list ≡ a ∷ [] → words_in (map f list) ≡ words_of (f a)
+one_words f list a e = rw e (omega arith)
+
+pub one_union : {X : Type 0} (f : X → List Bool) (len : ℕ) (list : List X) (a : X) → list ≡ a ∷ [] → All (λ v. length v ≡ len) (map f list) → (length (f a) ≡ len) × (f a ≡ union len (map f list))
+one_union f len list a e h =
+    let all : All (λ v. length v ≡ len) (f a ∷ []) = rw e at h in
+    let long = all 0 (f a) (omega arith) in
+    (long, rw e (sym (union-one len (f a) long)))
+
+pub copy_steps : {A B : Type 0} (r : Result A B) (s t w : ℕ) → OnOk r (t ≡ s + w) → OnErr r (t ≡ s) → t ≤ s + w
+copy_steps (Ok x) s t w h k = omega (arith, h)
+copy_steps (Err e) s t w h k = omega (arith, k)
+
+pub no_item : {X : Type 0} (f : X → List Bool) (len : ℕ) (list : List X) → length list < 1 → replicate len false ≡ union len (map f list)
+no_item f len [] h = sym (union-none len)
+no_item f len (x ∷ l) h = absurd (omega arith)
+
+pub twice_each : (g k s t : ℕ) → 1 ≤ k → t ≤ s + g → t ≤ s + 2 * g * k
+twice_each g k s t h l = omega (arith, l, mul-le-mul_left (2 * g) h)
 
 -- ---- zeros
 

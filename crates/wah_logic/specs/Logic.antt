@@ -1,5 +1,6 @@
 -- Operations on two lists of truth values, place by place.
-use Rattle.std.specs.Prelude.{ℕ, ◌+◌, ◌/◌, Bool, true, false, not, List, [], ◌∷◌, replicate, count_by}
+use Rattle.std.specs.Prelude.{ℕ, ◌+◌, ◌/◌, Bool, true, false, not, List, [], ◌∷◌, replicate, count_by, sum_by}
+use Rattle.wah_words.specs.Spelling.{words_of}
 
 -- the operation at each place that both lists have
 unfoldable pub each_place : (Bool → Bool → Bool) → List Bool → List Bool → List Bool
@@ -39,3 +40,7 @@ union len (v ∷ vs) = each_place or v (union len vs)
 -- how many groups and rests a list of this length is cut into
 abbrev pub groups_and_rest : ℕ → ℕ
 groups_and_rest len = (len + 30) / 31
+
+-- the words of all vectors together
+abbrev pub words_in : List (List Bool) → ℕ
+words_in vs = sum_by words_of vs

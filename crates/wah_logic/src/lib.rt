@@ -2,6 +2,7 @@
 //! two vectors have words. Nothing here expands a vector.
 #![tactic(auto)]
 
+mod has_rows;
 mod lockstep;
 mod logic;
 mod ops;
@@ -10,8 +11,9 @@ mod side;
 mod turn;
 mod unions;
 
+pub use has_rows::HasRows;
 pub use lockstep::{Lockstep, Pair};
-pub use logic::{combine, common, complement};
+pub use logic::{combine, combined, common, complement};
 pub use ops::{And, AndNot, BitOp, Or, Xor};
 pub use unions::or_many;
 

@@ -1,5 +1,6 @@
 //! Two vectors at equal places.
 ghost use Rattle.std.specs.Prelude.{◌≡◌, ◌+◌, ◌*◌, ◌^◌, ◌<◌, ◌≤◌, [], ◌++◌, length, replicate};
+ghost use Rattle.wah_words.specs.Limits.{most_bits};
 ghost use Rattle.wah_words.specs.Places.{places};
 ghost use Rattle.wah_words.specs.Spelling.{words_of};
 ghost use Rattle.wah_logic.specs.Rest.{looks};
@@ -50,7 +51,7 @@ impl<'a, 'b> Lockstep<'a, 'b> {
         ensures values { (result.a ≡ a.now) × (result.b ≡ b.now) }
         ensures words { result.words ≡ words_of a.now + words_of b.now }
         ensures fills { result.fills ≡ 0 }
-        ensures limit { length a.now ≤ 4194304 }
+        ensures limit { length a.now ≤ most_bits }
     {
         Lockstep {
             a: Side::over(a),

@@ -1,8 +1,9 @@
 //! Operations on whole vectors.
-ghost use Rattle.std.specs.Prelude.{◌≡◌, ◌+◌, ◌%◌, ◌<◌, ◌≤◌, not, map, [], ◌++◌, length, IfOk};
+ghost use Rattle.std.specs.Prelude.{◌≡◌, ◌+◌, ◌*◌, ◌%◌, ◌<◌, ◌≤◌, not, map, [], ◌++◌, length, IfOk};
+ghost use Rattle.wah_words.specs.Limits.{most_bits};
 ghost use Rattle.wah_words.specs.Spelling.{words_of};
 ghost use Rattle.wah_words.specs.Left.{run_values};
-ghost use Rattle.wah_logic.specs.Logic.{each_place, and, ones};
+ghost use Rattle.wah_logic.specs.Logic.{each_place, and, groups_and_rest, ones};
 ghost use Rattle.wah_logic.specs.Rest.{IsPart};
 
 use crate::ops::{And, BitOp};
@@ -20,7 +21,7 @@ fn push_run(out: &mut Builder, run: Run)
     requires part { IsPart run [] }
     requires aligned { length out.old.values % 31 ≡ 0 }
     requires room { 1 ≤ out.old.spare }
-    requires limit { length out.old.values + length (run_values run) ≤ 4194304 }
+    requires limit { length out.old.values + length (run_values run) ≤ most_bits }
     ensures values { out.new.values ≡ out.old.values ++ run_values run }
     ensures spare { out.old.spare ≤ out.new.spare + 1 }
     ensures words { words_of out.new.values ≤ words_of out.old.values + 1 }
@@ -51,11 +52,29 @@ pub fn combine<O: BitOp, L: Ledger>(a: &Wah, b: &Wah, out: Builder, steps: &mut 
     out.finish()
 }
 
+/// The same in room that is made for it.
+pub fn combined<O: BitOp, L: Ledger>(
+    alloc: Global,
+    a: &Wah,
+    b: &Wah,
+    steps: &mut Steps<L>,
+) -> Result<Wah, AllocError>
+    requires { length a.now ≡ length b.now }
+    ensures values { IfOk result (λ v. v ≡ each_place O.op a.now b.now) }
+    ensures length { IfOk result (λ v. length v ≡ length a.now) }
+    ensures words { IfOk result (λ v. words_of v ≤ words_of a.now + words_of b.now) }
+    ensures steps { steps.new ≤ steps.old + words_of a.now + words_of b.now }
+    ensures groups { steps.new ≤ steps.old + 2 * groups_and_rest (length a.now) }
+{
+    let out = Builder::with_room(alloc, a.words() + b.words())?;
+    Ok(combine::<O, L>(a, b, out, steps))
+}
+
 /// How many values of the run are true.
 #[inline(always)]
 fn ones_of(run: Run) -> u32
     requires part { IsPart run [] }
-    requires limit { length (run_values run) ≤ 4194304 }
+    requires limit { length (run_values run) ≤ most_bits }
     ensures { result ≡ ones (run_values run) }
 {
     match run {

@@ -1,6 +1,7 @@
 //! The walk of `combine`, which puts out the operation on what is left of both vectors. What is left of a fill is
 //! worked off against the other vector's words in one loop, so one vector at most stands inside a fill after it.
 ghost use Rattle.std.specs.Prelude.{◌≡◌, ◌+◌, ◌*◌, ◌%◌, ◌^◌, ◌<◌, ◌≤◌, [], ◌++◌, length, take, drop, replicate};
+ghost use Rattle.wah_words.specs.Limits.{most_bits};
 ghost use Rattle.wah_words.specs.Places.{places};
 ghost use Rattle.wah_words.specs.Spelling.{words_of};
 ghost use Rattle.wah_words.specs.Left.{run_values};
@@ -27,7 +28,7 @@ pub(crate) fn put_run<O: BitOp, L: Ledger>(
     requires same { length (run_values run) + length x.old.values ≡ length y.old.values }
     requires aligned { length out.old.values % 31 ≡ 0 }
     requires room { looks x.old + looks y.old + 1 ≤ out.old.spare }
-    requires limit { length out.old.values + length y.old.values ≤ 4194304 }
+    requires limit { length out.old.values + length y.old.values ≤ most_bits }
     ensures puts { Puts O.op (run_values run ++ x.old.values) y.old.values out.old.values x.new.values y.new.values out.new.values }
     ensures words { words_of out.new.values + looks x.new + looks y.new ≤ words_of out.old.values + looks x.old + looks y.old + 1 }
     ensures spare { out.old.spare + looks x.new + looks y.new ≤ out.new.spare + looks x.old + looks y.old + 1 }
@@ -53,7 +54,7 @@ fn put_fill<O: BitOp, L: Ledger>(
     requires long { 31 * groups ≤ length y.old.values }
     requires aligned { length out.old.values % 31 ≡ 0 }
     requires room { looks y.old + 1 ≤ out.old.spare }
-    requires limit { length out.old.values + 31 * groups ≤ 4194304 }
+    requires limit { length out.old.values + 31 * groups ≤ most_bits }
     ensures values { out.new.values ≡ out.old.values ++ each_place O.op (replicate (31 * groups) bit) (take (31 * groups) y.old.values) }
     ensures left { y.new.values ≡ drop (31 * groups) y.old.values }
     ensures words { words_of out.new.values + looks y.new ≤ words_of out.old.values + looks y.old + 1 }
@@ -84,7 +85,7 @@ fn put_beside<O: BitOp, L: Ledger>(
     requires long { 31 * groups ≤ length y.old.values }
     requires aligned { length out.old.values % 31 ≡ 0 }
     requires room { looks y.old + 1 ≤ out.old.spare }
-    requires limit { length out.old.values + 31 * groups ≤ 4194304 }
+    requires limit { length out.old.values + 31 * groups ≤ most_bits }
     ensures values { out.new.values ≡ out.old.values ++ each_place O.op (replicate (31 * groups) bit) (take (31 * groups) y.old.values) }
     ensures left { y.new.values ≡ drop (31 * groups) y.old.values }
     ensures words { words_of out.new.values + looks y.new ≤ words_of out.old.values + looks y.old + 1 }
@@ -130,7 +131,7 @@ fn put_literals<O: BitOp, L: Ledger>(
     requires same { 31 + length x.old.values ≡ length y.old.values }
     requires aligned { length out.old.values % 31 ≡ 0 }
     requires room { looks x.old + looks y.old + 1 ≤ out.old.spare }
-    requires limit { length out.old.values + length y.old.values ≤ 4194304 }
+    requires limit { length out.old.values + length y.old.values ≤ most_bits }
     ensures puts { Puts O.op (places 31 word ++ x.old.values) y.old.values out.old.values x.new.values y.new.values out.new.values }
     ensures words { words_of out.new.values + looks x.new + looks y.new ≤ words_of out.old.values + looks x.old + looks y.old + 1 }
     ensures spare { out.old.spare + looks x.new + looks y.new ≤ out.new.spare + looks x.old + looks y.old + 1 }
@@ -179,7 +180,7 @@ fn put_tail<O: BitOp, L: Ledger>(
     requires fits { bits < 2 ^ count }
     requires same { count ≡ length y.old.values }
     requires aligned { length out.old.values % 31 ≡ 0 }
-    requires limit { length out.old.values + count ≤ 4194304 }
+    requires limit { length out.old.values + count ≤ most_bits }
     ensures puts { Puts O.op (places count bits) y.old.values out.old.values [] y.new.values out.new.values }
     ensures words { words_of out.new.values + looks y.new ≤ words_of out.old.values + looks y.old }
     ensures spare { out.new.spare ≡ out.old.spare }

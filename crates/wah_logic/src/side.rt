@@ -1,5 +1,6 @@
 //! One of two vectors that are walked in lockstep.
 ghost use Rattle.std.specs.Prelude.{◌≡◌, ◌+◌, ◌*◌, ◌<◌, ◌≤◌, ◌++◌, ◌==◌, if◌then◌else◌, Some, length, drop, replicate};
+ghost use Rattle.wah_words.specs.Limits.{most_bits};
 ghost use Rattle.wah_words.specs.Spelling.{words_of};
 ghost use Rattle.wah_logic.specs.Rest.{Takes, looks};
 
@@ -32,7 +33,7 @@ impl<'a> Side<'a> {
         ensures values { result.values ≡ vector.now }
         ensures words { result.words ≡ words_of vector.now }
         ensures fills { result.fills ≡ 0 }
-        ensures limit { length vector.now ≤ 4194304 }
+        ensures limit { length vector.now ≤ most_bits }
     {
         Side {
             cursor: vector.cursor(),

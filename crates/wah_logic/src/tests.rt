@@ -1,11 +1,11 @@
-ghost use Rattle.std.specs.Prelude.{◌≡◌, ◌+◌, ◌<◌, ◌≤◌, length};
+ghost use Rattle.std.specs.Prelude.{◌≡◌, ◌+◌, ◌*◌, ◌%◌, ◌<◌, ◌≤◌, All, length, IfOk};
 
 use super::*;
 use std::alloc::{AllocError, Global};
 use std::marker::Brand;
-use std::sync::ledger::{Blank, Ledger};
+use std::sync::ledger::Ledger;
 use std::test::Fail;
-use steps::Steps;
+use steps::{Blank, Count, Steps};
 use wah_words::{Builder, MAX_LEN, Wah};
 
 /// The list of these runs of values.
@@ -124,7 +124,7 @@ fn answered<L: Ledger>(
     let complement = complement(alloc, &a, &mut steps)?.to_bytes(alloc, &mut steps)?;
     let common = common(&a, &b, &mut steps);
     let len = a.len();
-    let union = or_many(alloc, &[a, b], len, &mut steps)?.to_bytes(alloc, &mut steps)?;
+    let union = or_many(alloc, &[&a, &b], len, &mut steps)?.to_bytes(alloc, &mut steps)?;
     Ok(Some(Answers {
         and,
         complement,
@@ -139,7 +139,73 @@ fn union_of_none<L: Ledger>(blank: Blank, alloc: Global) -> Result<Vec<u8>, Allo
     requires some { 0 < blank.parts }
 {
     let mut steps = Steps::<L>::new(blank);
-    or_many(alloc, &[], 62, &mut steps)?.to_bytes(alloc, &mut steps)
+    let none: [Wah; 0] = [];
+    or_many(alloc, &none, 62, &mut steps)?.to_bytes(alloc, &mut steps)
+}
+
+/// Appends so many groups that are all false.
+fn push_zeros(out: &mut Builder, groups: u32)
+    requires aligned { length out.old.values % 31 ≡ 0 }
+    requires room { 1 ≤ out.old.spare }
+    requires limit { length out.old.values + 31 * groups ≤ 4194304 }
+    ensures length { length out.new.values ≡ length out.old.values + 31 * groups }
+    ensures spare { out.old.spare ≤ out.new.spare + 1 }
+{
+    if groups > 0 {
+        out.push_fill(false, groups);
+    }
+}
+
+/// Appends a group that begins with its one true value.
+fn push_first(out: &mut Builder)
+    requires aligned { length out.old.values % 31 ≡ 0 }
+    requires room { 1 ≤ out.old.spare }
+    requires limit { length out.old.values + 31 ≤ 4194304 }
+    ensures length { length out.new.values ≡ length out.old.values + 31 }
+    ensures spare { out.old.spare ≤ out.new.spare + 1 }
+{
+    out.push_literal(0x4000_0000);
+}
+
+/// So many groups, of which the one at this place begins with a true value and all else is false.
+fn first_of_group(alloc: Global, place: u32, groups: u32) -> Result<Wah, AllocError>
+    requires place { place < groups }
+    requires limit { groups ≤ 1024 }
+    ensures { IfOk result (λ v. length v ≡ 31 * groups) }
+{
+    let mut out = Builder::with_room(alloc, 3)?;
+    push_zeros(&mut out, place);
+    push_first(&mut out);
+    push_zeros(&mut out, groups - 1 - place);
+    Ok(out.finish())
+}
+
+/// One of these for each group.
+fn first_of_each_group(alloc: Global, groups: u32) -> Result<Vec<Wah>, AllocError>
+    requires { groups ≤ 1024 }
+    ensures { IfOk result (λ vs. All (λ v. length v ≡ 31 * groups) vs.items) }
+{
+    let mut vectors = Vec::new(alloc);
+    for place in 0..groups {
+        vectors.push(first_of_group(alloc, place, groups)?)?;
+    }
+    Ok(vectors)
+}
+
+/// The bytes of the union of these.
+fn union_of_groups<L: Ledger>(
+    blank: Blank,
+    alloc: Global,
+    groups: u32,
+) -> Result<Vec<u8>, AllocError>
+    requires ledger { blank.name ≡ L.name }
+    requires parts { blank.parts ≡ L.parts }
+    requires some { 0 < blank.parts }
+    requires limit { groups ≤ 1024 }
+{
+    let mut steps = Steps::<L>::new(blank);
+    let vectors = first_of_each_group(alloc, groups)?;
+    or_many(alloc, &vectors, 31 * groups, &mut steps)?.to_bytes(alloc, &mut steps)
 }
 
 /// The first pairs of two vectors.
@@ -179,13 +245,48 @@ const FEW: &[u8] = &[
 fn ones_leave_the_other_vector(rt: HostRuntime) -> Result<(), Fail> {
     let (a, _) = Wah::from_bytes(rt.alloc(), ALL)?;
     let (b, _) = Wah::from_bytes(rt.alloc(), FEW)?;
-    let answers = answered::<Brand>(Blank::new(1), rt.alloc(), a, b)?.ok_or("two lengths")?;
+    let answers = answered::<Brand>(rt.blank(), rt.alloc(), a, b)?.ok_or("two lengths")?;
     assert_eq!(rt; answers.and.as_slice(), FEW);
     assert_eq!(rt; answers.common, 34);
     assert_eq!(rt; answers.complement.as_slice(), NOTHING);
     assert_eq!(rt; answers.union.as_slice(), ALL);
-    let none = union_of_none::<Brand>(Blank::new(1), rt.alloc())?;
+    let none = union_of_none::<Brand>(rt.blank(), rt.alloc())?;
     assert_eq!(rt; none.as_slice(), NO_VECTORS);
+    Ok(())
+}
+
+/// The vectors have 3,070 words in all, and 1,024 has 11 binary digits: `or_many` takes at most 33,770 steps.
+#[test]
+fn union_of_many_has_the_rows_of_each(rt: HostRuntime) -> Result<(), Fail> {
+    let bytes = union_of_groups::<Brand>(rt.blank(), rt.alloc(), 1024)?;
+    let mut want = vec![in rt.alloc(); 0, 0x7C, 0, 0, 0, 4, 0, 0]?;
+    for _ in 0..1024 {
+        want.extend_from_slice(&[0, 0, 0, 0x40])?;
+    }
+    assert_eq!(rt; bytes.as_slice(), want.as_slice());
+    Ok(())
+}
+
+/// Of one to nine vectors, also by reference.
+#[test]
+fn unions_of_few_leave_none_out(rt: HostRuntime) -> Result<(), Fail> {
+    for groups in 1..10 {
+        let bytes = union_of_groups::<Brand>(rt.blank(), rt.alloc(), groups)?;
+        let mut want = vec![in rt.alloc();
+            (31 * groups % 256) as u8,
+            (31 * groups / 256) as u8,
+            0,
+            0,
+            groups as u8,
+            0,
+            0,
+            0,
+        ]?;
+        for _ in 0..groups {
+            want.extend_from_slice(&[0, 0, 0, 0x40])?;
+        }
+        assert_eq!(rt; bytes.as_slice(), want.as_slice());
+    }
     Ok(())
 }
 
@@ -193,7 +294,7 @@ fn ones_leave_the_other_vector(rt: HostRuntime) -> Result<(), Fail> {
 fn pairs_stand_at_equal_places(rt: HostRuntime) -> Result<(), Fail> {
     let (a, _) = Wah::from_bytes(rt.alloc(), ALL)?;
     let (b, _) = Wah::from_bytes(rt.alloc(), FEW)?;
-    let pairs = pairs_of::<Brand>(Blank::new(1), rt.alloc(), &a, &b)?;
+    let pairs = pairs_of::<Brand>(rt.blank(), rt.alloc(), &a, &b)?;
     let want = [
         Pair::Words {
             a: 0x7FFF_FFFF,
@@ -253,7 +354,7 @@ fn operations_are_those_of_the_lists(rt: HostRuntime) -> Result<(), Fail> {
     for (a, b) in table {
         let x = listed(rt.alloc(), a)?;
         let y = listed(rt.alloc(), b)?;
-        assert!(rt; all_agree::<Brand>(Blank::new(1), rt.alloc(), &x, &y)?);
+        assert!(rt; all_agree::<Brand>(rt.blank(), rt.alloc(), &x, &y)?);
     }
     Ok(())
 }

@@ -5,3 +5,4 @@ pub mod StoredLemmas
 pub mod CursorLemmas
 pub mod ReadingLemmas
 pub mod BytesLemmas
+pub mod OnesLemmas

@@ -1,5 +1,6 @@
 -- Words as 32-bit numbers, and the bytes of a vector.
 use Rattle.std.specs.Prelude.{◌≡◌, ℕ, zero, suc, ◌+◌, ◌*◌, ◌/◌, ◌%◌, ◌^◌, ◌<◌, ◌≤◌, Bool, false, ◌||◌, List, [], ◌∷◌, ◌++◌, length, take, drop, map, Option, None, Some, Result, Ok, Err, nat_lt, nat_le, ◌==◌, if◌then◌else◌}
+use Rattle.wah_words.specs.Limits.{most_bits}
 use Rattle.std.specs.Option.{option_map}
 use Rattle.std.specs.List.{flat_map}
 use Rattle.std.specs.Int.{w32, to_le_bytes, from_le_bytes}
@@ -88,7 +89,7 @@ body_at len m bytes = with_size (8 + 4 * m + active_size len) (vector_of len (de
 
 -- the vector of this length and so many regular words at the front of the bytes, or the first fault
 unfoldable pub sized_at : ℕ → ℕ → List ℕ → Result (List Bool × ℕ) WordsFault
-sized_at len m bytes = if nat_lt 4194304 len then Err TooLong else if nat_lt (len / 31) m then Err Groups else if nat_lt (length bytes) (8 + 4 * m + active_size len) then Err Short else body_at len m (drop 8 bytes)
+sized_at len m bytes = if nat_lt most_bits len then Err TooLong else if nat_lt (len / 31) m then Err Groups else if nat_lt (length bytes) (8 + 4 * m + active_size len) then Err Short else body_at len m (drop 8 bytes)
 
 -- the vector at the front of the bytes with the number of its bytes, or the first fault
 unfoldable pub vector_at : List ℕ → Result (List Bool × ℕ) WordsFault
@@ -121,7 +122,7 @@ pub record IsStored (len : ℕ) (items : List ℕ) (active : ℕ) : Type 0 where
   pub canonical : IsCanonical (decoded_all items)
   pub whole : 31 * groups_told (decoded_all items) + len % 31 ≡ len
   pub active_fits : active < 2 ^ (len % 31)
-  pub within : len ≤ 4194304
+  pub within : len ≤ most_bits
 
 -- the vector
 abbrev pub stored : ℕ → List ℕ → ℕ → List Bool

@@ -1,5 +1,5 @@
 -- What a cursor has still to give, and what one call of `advance` gives.
-use Rattle.std.specs.Prelude.{◌≡◌, ℕ, ◌+◌, ◌*◌, ◌^◌, ◌<◌, Bool, List, [], ◌++◌, replicate, Option, None, Some}
+use Rattle.std.specs.Prelude.{◌≡◌, ℕ, ◌+◌, ◌*◌, ◌^◌, ◌<◌, Bool, List, [], ◌++◌, replicate, count_by, Option, None, Some}
 use Rattle.wah_words.specs.declared.run.Run.{Run}
 use Rattle.wah_words.specs.declared.run.Run.TheVariants as runs
 use Rattle.wah_words.specs.Places.{places}
@@ -26,6 +26,11 @@ IsRun (runs.Tail bits count) after = (0 < count) × (count < 31) × (bits < 2 ^ 
 abbrev pub Comes : Left → Option Run → Left → Type 0
 Comes old None new = (old.values ≡ []) × (old.words ≡ 0) × (new ≡ old)
 Comes old (Some run) new = (old.values ≡ run_values run ++ new.values) × (old.words ≡ new.words + 1) × IsRun run new
+
+-- How many values of the next word are true: so many less are left, and one word less is to look at.
+abbrev pub Counts : Left → Option ℕ → Left → Type 0
+Counts old None new = (old.values ≡ []) × (old.words ≡ 0) × (new ≡ old)
+Counts old (Some n) new = (count_by (λ b. b) old.values ≡ n + count_by (λ b. b) new.values) × (old.words ≡ new.words + 1)
 
 -- the run of a regular word
 abbrev pub run_of_word : Word → Run

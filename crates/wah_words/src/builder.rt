@@ -1,4 +1,5 @@
 ghost use Rattle.std.specs.Prelude.{◌≡◌, ℕ, ◌+◌, ◌*◌, ◌%◌, ◌^◌, ◌<◌, ◌≤◌, true, false, [], ◌∷◌, ◌++◌, length, replicate, IfOk};
+ghost use Rattle.wah_words.specs.Limits.{most_bits};
 ghost use Rattle.wah_words.specs.Places.{places};
 ghost use Rattle.wah_words.specs.Spelling.{words_of};
 
@@ -49,7 +50,7 @@ impl Builder {
     #[inline(always)]
     pub fn len(&self) -> u32
         ensures length { result ≡ length self.now.values }
-        ensures limit { length self.now.values ≤ 4194304 }
+        ensures limit { length self.now.values ≤ most_bits }
 
         // a tail has 1 to 30 values
         ensures open { length self.now.values % 31 ≡ 0 → self.now.has_tail ≡ false }
@@ -71,7 +72,7 @@ impl Builder {
         requires aligned { length self.old.values % 31 ≡ 0 }
         requires room { 1 ≤ self.old.spare }
         requires some { 1 ≤ groups }
-        requires limit { length self.old.values + 31 * groups ≤ 4194304 }
+        requires limit { length self.old.values + 31 * groups ≤ most_bits }
         ensures values { self.new.values ≡ self.old.values ++ replicate (31 * groups) bit }
         ensures spare { (self.old.spare ≤ self.new.spare + 1) × (self.new.spare ≤ self.old.spare) }
         ensures open { self.new.has_tail ≡ false }
@@ -87,7 +88,7 @@ impl Builder {
         requires aligned { length self.old.values % 31 ≡ 0 }
         requires room { 1 ≤ self.old.spare }
         requires group { word < 2 ^ 31 }
-        requires limit { length self.old.values + 31 ≤ 4194304 }
+        requires limit { length self.old.values + 31 ≤ most_bits }
         ensures values { self.new.values ≡ self.old.values ++ places 31 word }
         ensures spare { (self.old.spare ≤ self.new.spare + 1) × (self.new.spare ≤ self.old.spare) }
         ensures open { self.new.has_tail ≡ false }
@@ -104,7 +105,7 @@ impl Builder {
         requires some { 1 ≤ count }
         requires few { count ≤ 30 }
         requires fits { bits < 2 ^ count }
-        requires limit { length self.old.values + count ≤ 4194304 }
+        requires limit { length self.old.values + count ≤ most_bits }
         ensures values { self.new.values ≡ self.old.values ++ places count bits }
         ensures spare { self.new.spare ≡ self.old.spare }
         ensures closed { self.new.has_tail ≡ true }
@@ -120,7 +121,7 @@ impl Builder {
     pub fn push_bit(&mut self, bit: bool)
         requires open { self.old.has_tail ≡ false }
         requires room { 1 ≤ self.old.spare }
-        requires limit { length self.old.values + 1 ≤ 4194304 }
+        requires limit { length self.old.values + 1 ≤ most_bits }
         ensures values { self.new.values ≡ self.old.values ++ bit ∷ [] }
         ensures spare { (self.old.spare ≤ self.new.spare + 1) × (self.new.spare ≤ self.old.spare) }
         ensures open { self.new.has_tail ≡ false }

@@ -1,9 +1,9 @@
 ghost use Rattle.std.specs.Prelude.{◌≡◌, ℕ, ◌+◌, ◌<◌, ◌≤◌, ◌↔◌, length, Some, IsSome, is_some, if◌then◌else◌};
 ghost use Rattle.wah_words.specs.Spelling.{words_of};
-ghost use Rattle.wah_words.specs.Left.{Comes};
+ghost use Rattle.wah_words.specs.Left.{Comes, Counts};
 
 use crate::run::Run;
-use crate::words::run_of;
+use crate::words::{ones_in, run_of};
 use std::marker::Model;
 use std::sync::ledger::Ledger;
 use steps::Steps;
@@ -62,6 +62,32 @@ impl<'a> Cursor<'a> {
                 self.active = 0;
                 self.count = 0;
                 Some(run)
+            }
+        }
+    }
+
+    /// How many values of the next word are true.
+    #[inline(always)]
+    pub fn advance_count<L: Ledger>(&mut self, steps: &mut Steps<L>) -> Option<u64>
+        ensures counts { Counts self.old result self.new }
+        ensures steps { steps.new ≡ steps.old + (if is_some result then 1 else 0) }
+    {
+        match self.regular {
+            [word, rest @ ..] => {
+                steps.tick();
+                let count = ones_in(*word);
+                self.regular = rest;
+                Some(count)
+            }
+            [] => {
+                if self.count == 0 {
+                    return None;
+                }
+                steps.tick();
+                let count = u64::from(self.active.count_ones());
+                self.active = 0;
+                self.count = 0;
+                Some(count)
             }
         }
     }

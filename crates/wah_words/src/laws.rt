@@ -1,5 +1,6 @@
 //! Laws of the spelling, each on a function that does nothing.
 ghost use Rattle.std.specs.Prelude.{◌≡◌, ℕ, ◌+◌, ◌*◌, ◌/◌, ◌%◌, ◌<◌, ◌≤◌, ◌++◌, List, Bool, length};
+ghost use Rattle.wah_words.specs.Limits.{most_bits};
 ghost use Rattle.wah_words.specs.Spelling.{Word, regular_words, rest_of, words_of, told, groups_told, IsCanonical};
 ghost use Rattle.wah_words.specs.Bytes.{spelling};
 
@@ -15,7 +16,7 @@ pub fn one_spelling()
 pub fn one_list()
     ensures words { (ws : List Word) (rest : List Bool) → IsCanonical ws → length rest < 31 → regular_words (told ws ++ rest) ≡ ws }
     ensures rest { (ws : List Word) (rest : List Bool) → IsCanonical ws → length rest < 31 → rest_of (told ws ++ rest) ≡ rest }
-    ensures bytes { (v w : List Bool) (x y : List ℕ) → length v ≤ 4194304 → length w ≤ 4194304 → spelling v ++ x ≡ spelling w ++ y → v ≡ w }
+    ensures bytes { (v w : List Bool) (x y : List ℕ) → length v ≤ most_bits → length w ≤ most_bits → spelling v ++ x ≡ spelling w ++ y → v ≡ w }
 {}
 
 /// The law on lengths: the regular words stand for the whole groups of the list, each for one at least, and a vector's

@@ -1,5 +1,6 @@
 //! Reading a vector from bytes.
 ghost use Rattle.std.specs.Prelude.{◌≡◌, ◌+◌, ◌*◌, ◌/◌, ◌%◌, ◌^◌, ◌≤◌, ◌==◌, if◌then◌else◌, nat_le, length, drop, None, IfOk, OnOk, IfErr};
+ghost use Rattle.wah_words.specs.Limits.{most_bits};
 ghost use Rattle.wah_words.specs.Bytes.{Reads, number_at, numbers_at, active_size, decoded_all, first_wrong, IsWrongAt, body_at, vector_at};
 ghost use Rattle.wah_words.specs.Spelling.{literal, groups_told};
 
@@ -62,7 +63,7 @@ fn is_too_high(len: u32, active: u32) -> bool
 }
 
 fn read_body(alloc: Global, len: u32, count: u32, body: &[u8]) -> Result<(Wah, usize), WordsFault>
-    requires limit { len ≤ 4194304 }
+    requires limit { len ≤ most_bits }
     requires few { count ≤ len / 31 }
     requires enough { 4 * count + active_size len ≤ length body.now }
     ensures { Reads result (body_at len count body.now) }

@@ -3,9 +3,9 @@ ghost use Rattle.std.specs.Prelude.{◌≡◌, ◌<◌};
 use super::*;
 use std::alloc::{AllocError, Global};
 use std::marker::Brand;
-use std::sync::ledger::{Blank, Ledger};
+use std::sync::ledger::Ledger;
 use std::test::Fail;
-use steps::Steps;
+use steps::{Blank, Count, Steps};
 
 /// The vector of these runs of values, where there is room for them.
 fn built(alloc: Global, runs: &[(bool, u32)]) -> Result<Option<Wah>, AllocError> {
@@ -94,11 +94,11 @@ fn vectors_have_these_bytes(rt: HostRuntime) -> Result<(), Fail> {
     for (runs, words, bytes) in table {
         let vector = built(rt.alloc(), runs)?.ok_or("no room")?;
         assert_eq!(rt; vector.words(), words);
-        let spelled = bytes_of::<Brand>(Blank::new(1), rt.alloc(), &vector)?;
+        let spelled = bytes_of::<Brand>(rt.blank(), rt.alloc(), &vector)?;
         assert_eq!(rt; spelled.as_slice(), bytes);
         let (again, used) = Wah::from_bytes(rt.alloc(), bytes)?;
         assert_eq!(rt; used, bytes.len());
-        let spelled = bytes_of::<Brand>(Blank::new(1), rt.alloc(), &again)?;
+        let spelled = bytes_of::<Brand>(rt.blank(), rt.alloc(), &again)?;
         assert_eq!(rt; spelled.as_slice(), bytes);
     }
     Ok(())
@@ -107,7 +107,7 @@ fn vectors_have_these_bytes(rt: HostRuntime) -> Result<(), Fail> {
 #[test]
 fn a_cursor_gives_the_runs_in_order(rt: HostRuntime) -> Result<(), Fail> {
     let vector = built(rt.alloc(), MIXED)?.ok_or("no room")?;
-    let runs = runs_of::<Brand>(Blank::new(1), rt.alloc(), &vector)?;
+    let runs = runs_of::<Brand>(rt.blank(), rt.alloc(), &vector)?;
     let want = [
         Run::Literal(0x4000_0380),
         Run::Fill {
@@ -121,7 +121,7 @@ fn a_cursor_gives_the_runs_in_order(rt: HostRuntime) -> Result<(), Fail> {
         },
     ];
     assert_eq!(rt; runs.as_slice(), want.as_slice());
-    let first = first_of::<Brand>(Blank::new(1), &vector);
+    let first = first_of::<Brand>(rt.blank(), &vector);
     assert_eq!(rt; first, Some(Run::Literal(0x4000_0380)));
     Ok(())
 }

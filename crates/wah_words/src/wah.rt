@@ -1,4 +1,5 @@
 ghost use Rattle.std.specs.Prelude.{◌≡◌, ℕ, ◌+◌, ◌*◌, ◌<◌, ◌≤◌, ◌++◌, List, Bool, length, take, Ok, IfOk, OnOk, OnErr};
+ghost use Rattle.wah_words.specs.Limits.{most_bits};
 ghost use Rattle.wah_words.specs.Spelling.{words_of};
 ghost use Rattle.wah_words.specs.Bytes.{spelling, vector_at, Reads};
 
@@ -40,7 +41,7 @@ impl Wah {
     #[inline(always)]
     pub fn len(&self) -> u32
         ensures length { result ≡ length self.now }
-        ensures limit { length self.now ≤ 4194304 }
+        ensures limit { length self.now ≤ most_bits }
     {
         self.len
     }
@@ -49,7 +50,7 @@ impl Wah {
     #[inline(always)]
     pub fn words(&self) -> u32
         ensures words { result ≡ words_of self.now }
-        ensures limit { length self.now ≤ 4194304 }
+        ensures limit { length self.now ≤ most_bits }
     {
         let regular = self.regular.len() as u32;
         if self.len % 31 == 0 {
@@ -64,7 +65,7 @@ impl Wah {
     pub fn cursor(&self) -> Cursor<'_>
         ensures values { result.values ≡ self.now }
         ensures words { result.words ≡ words_of self.now }
-        ensures limit { length self.now ≤ 4194304 }
+        ensures limit { length self.now ≤ most_bits }
     {
         Cursor {
             regular: &self.regular,
@@ -115,7 +116,7 @@ impl Wah {
         ensures used { IfOk result (λ x. (x.1 ≡ length (spelling x.0)) × (x.1 ≤ length bytes.now)) }
 
         // What is spelled so is read, unless memory runs out.
-        ensures only { (v : List Bool) (rest : List ℕ) → length v ≤ 4194304 → bytes.now ≡ spelling v ++ rest → Reads result (Ok (v, length (spelling v))) }
+        ensures only { (v : List Bool) (rest : List ℕ) → length v ≤ most_bits → bytes.now ≡ spelling v ++ rest → Reads result (Ok (v, length (spelling v))) }
 
         // Which fault it is: the first one.
         ensures exact { Reads result (vector_at bytes.now) }

@@ -1,10 +1,10 @@
 //! Regular words as numbers.
-ghost use Rattle.std.specs.Prelude.{◌≡◌, ◌+◌, ◌*◌, ◌<◌, ◌||◌, replicate, vec_len};
+ghost use Rattle.std.specs.Prelude.{◌≡◌, ◌+◌, ◌*◌, ◌<◌, ◌||◌, count_by, replicate, vec_len};
 ghost use Rattle.std.specs.Vec.{vec_capacity};
 ghost use Rattle.wah_words.specs.Places.{places};
 ghost use Rattle.wah_words.specs.Spelling.{literal, fill, word_groups, IsCanonical, groups_told};
 ghost use Rattle.wah_words.specs.Bytes.{encoded, decoded, decoded_all, is_improper, are_joined, Appends};
-ghost use Rattle.wah_words.specs.Left.{run_of_word};
+ghost use Rattle.wah_words.specs.Left.{run_of_word, run_values};
 
 use crate::run::Run;
 
@@ -87,6 +87,20 @@ pub(crate) fn run_of(word: u32) -> Run
             bit: word >= ONES,
             groups: word % GROUPS,
         }
+    }
+}
+
+/// How many values of the word are true. Both kinds are counted, so that nothing branches on which one it is.
+#[inline(always)]
+pub(crate) fn ones_in(word: u32) -> u64
+    ensures { result ≡ count_by (λ b. b) (run_values (run_of_word (decoded word))) }
+{
+    let literal = word.count_ones();
+    let filled = 31 * u64::from(word % GROUPS) * u64::from(word / GROUPS % 2);
+    if word < FILL {
+        u64::from(literal)
+    } else {
+        filled
     }
 }
 

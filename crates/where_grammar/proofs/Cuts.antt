@@ -1,40 +1,34 @@
 -- What the token that is read at the front tells of the text.
-use Rattle.std.proofs.Common.{◌≡◌, ℕ, suc, ◌+◌, ◌≤◌, ◌<◌, Bool, true, false, cond, List, [], ◌∷◌, ◌++◌, length, take, drop, refl, sym, ap, subst, ◌∙◌, inl, inr, eqb, eqb-true, append_assoc, arith, ℤ}
+use Rattle.std.proofs.Common.{◌≡◌, ℕ, suc, ◌+◌, Bool, true, false, cond, List, [], ◌∷◌, ◌++◌, take, drop, refl, sym, ap, subst, ◌∙◌, inl, inr, eqb, eqb-true, append_assoc, arith}
 use Rattle.std.specs.Prelude.{Option, Some, None, is_some}
 use Rattle.std.specs.List.{prefix_len, list_all}
 use Rattle.std.specs.Char.{is_ascii_digit}
 use Rattle.std.specs.Str.{str_to_ascii_lowercase}
-use Rattle.std.specs.Str.Parse.{digits_value}
-use Rattle.std.proofs.lemmas.List.{take-append-drop, length-take-le}
-use Rattle.std.proofs.lemmas.List.Sums.{prefix_len-le-length}
+use Rattle.std.proofs.lemmas.List.{take-append-drop}
 use Rattle.std.proofs.lemmas.Bool.Decides.{nat_tests}
 use Rattle.fb_types.specs.Field.{whole_of}
-use Rattle.fb_types.proofs.FieldFacts.{natural_of-digits}
 use Rattle.where_grammar.specs.declared.token.Sign.{Sign}
 use Rattle.where_grammar.specs.declared.token.Token.{Token}
 use Rattle.where_grammar.specs.declared.token.Token.TheVariants as t
-use Rattle.where_grammar.specs.Tokens.{is_quote, doubled, IsQuoted, unquoted, text_at, is_word, IsWritten, goes_on, StopsAt, begins_word, in_word, fits_128, double_sign, single_sign, single_before, longest, number, signed, word_at, number_at, sign_at, token_at}
+use Rattle.lexing.specs.Blanks.{StopsAt}
+use Rattle.lexing.specs.Digits.{natural_at, natural_of, signed}
+use Rattle.lexing.proofs.DigitLemmas.{natural_at-cut, natural_of-some}
+use Rattle.where_grammar.specs.Tokens.{is_quote, doubled, IsQuoted, IsInFront, unquoted, text_at, is_word, goes_on, begins_word, in_word, double_sign, single_sign, single_before, longest, word_at, number_at, sign_at, token_at}
 use Rattle.where_grammar.proofs.Quotes.{unquoted_cuts}
-use Rattle.where_grammar.proofs.Cases.{chosen, guarded, mapped}
-use Rattle.where_grammar.proofs.Runs.{front_passes, rest_stops, and_parts}
-
--- a token with no blank before it
-pub record Cuts (text : List ℕ) (token : Token) (rest : List ℕ) : Type 0 where
-  pub form : List ℕ
-  pub cut : text ≡ form ++ rest
-  pub written : IsWritten form token
-  pub ends : StopsAt (goes_on form token) rest
+use Rattle.lexing.proofs.Cases.{chosen, mapped}
+use Rattle.std.proofs.lemmas.Bool.{and_parts}
+use Rattle.lexing.proofs.Runs.{front_passes, rest_stops}
 
 abbrev CutsAt : List ℕ → Token × List ℕ → Type 0
-CutsAt text found = Cuts text found.0 found.1
+CutsAt text found = IsInFront text found.0 found.1
 
 -- ---- numbers
 
-pub whole_of-minus : (ds : List ℕ) → list_all is_ascii_digit ds ≡ true → 0 < length ds → whole_of (45 ∷ ds) ≡ Some (signed true (digits_value 10 ds))
-whole_of-minus ds all some = rw (natural_of-digits ds some all) refl
+pub whole_of-minus : (ds : List ℕ) (n : ℕ) → natural_of ds ≡ Some n → whole_of (45 ∷ ds) ≡ Some (signed true n)
+whole_of-minus ds n is = rw is refl
 
-pub whole_of-plus : (ds : List ℕ) → list_all is_ascii_digit ds ≡ true → 0 < length ds → whole_of (43 ∷ ds) ≡ Some (signed false (digits_value 10 ds))
-whole_of-plus ds all some = rw (natural_of-digits ds some all) refl
+pub whole_of-plus : (ds : List ℕ) (n : ℕ) → natural_of ds ≡ Some n → whole_of (43 ∷ ds) ≡ Some (signed false n)
+whole_of-plus ds n is = rw is refl
 
 pub no_minus : (d : ℕ) → is_ascii_digit d ≡ true → eqb d 45 ≡ false
 no_minus d e = grind (arith, nat_tests)
@@ -42,36 +36,22 @@ no_minus d e = grind (arith, nat_tests)
 pub no_plus : (d : ℕ) → is_ascii_digit d ≡ true → eqb d 43 ≡ false
 no_plus d e = grind (arith, nat_tests)
 
-pub whole_of-plain : (ds : List ℕ) → list_all is_ascii_digit ds ≡ true → 0 < length ds → whole_of ds ≡ Some (signed false (digits_value 10 ds))
-whole_of-plain [] all some = absurd (omega arith)
-whole_of-plain (d ∷ ds) all some =
-    let digit = (and_parts (is_ascii_digit d) (list_all is_ascii_digit ds) all).0 in
-    rw (no_minus d digit, no_plus d digit, natural_of-digits (d ∷ ds) some all) refl
-
-number_written : (form : List ℕ) (v : ℤ) (fits : Bool) → fits_128 v ≡ fits → whole_of form ≡ Some v → IsWritten form (cond fits (t.Number v) t.Large)
-number_written form v true fits e = (e, fits)
-number_written form v false fits e = (v, e, fits)
-
-number_ends : (form rest : List ℕ) (v : ℤ) (fits : Bool) → StopsAt is_ascii_digit rest → StopsAt (goes_on form (cond fits (t.Number v) t.Large)) rest
-number_ends form rest v true stops = stops
-number_ends form rest v false stops = stops
-
-some_digits : (n : ℕ) (text : List ℕ) → eqb n 0 ≡ false → n ≤ length text → 0 < length (take n text)
-some_digits n text some within = let l = length-take-le n text within in grind (arith, nat_tests)
+pub whole_of-plain : (ds : List ℕ) (n : ℕ) → natural_of ds ≡ Some n → whole_of ds ≡ Some (signed false n)
+whole_of-plain [] n is = absurd cc
+whole_of-plain (d ∷ ds) n is =
+    let digit = (and_parts (is_ascii_digit d) (list_all is_ascii_digit ds) (natural_of-some (d ∷ ds) n is).all).0 in
+    rw (no_minus d digit, no_plus d digit, is) refl
 
 abbrev Begins : List ℕ → Bool → Type 0
-Begins front is_negative = (ds : List ℕ) → list_all is_ascii_digit ds ≡ true → 0 < length ds → whole_of (front ++ ds) ≡ Some (signed is_negative (digits_value 10 ds))
+Begins front is_negative = (ds : List ℕ) (n : ℕ) → natural_of ds ≡ Some n → whole_of (front ++ ds) ≡ Some (signed is_negative n)
 
 number_cuts : (front : List ℕ) (is_negative : Bool) (text : List ℕ) (found : Token × List ℕ) → Begins front is_negative → number_at is_negative text ≡ Some found → CutsAt (front ++ text) found
 unfolding number_at
 number_cuts front is_negative text found begins e =
-    let n = prefix_len is_ascii_digit text in
-    let digits = take n text in
-    let v = signed is_negative (digits_value 10 digits) in
-    let h = guarded (eqb n 0) (number v, drop n text) found e in
-    let whole : whole_of (front ++ digits) ≡ Some v = begins digits (front_passes is_ascii_digit text) (some_digits n text h.0 (prefix_len-le-length is_ascii_digit text)) in
-    let cut : front ++ text ≡ (front ++ digits) ++ drop n text = ap (λ x. front ++ x) (sym (take-append-drop n text)) ∙ sym (append_assoc front digits (drop n text)) in
-    subst (CutsAt (front ++ text)) h.1 (record { form = front ++ digits; cut = cut; written = number_written (front ++ digits) v (fits_128 v) refl whole; ends = number_ends (front ++ digits) (drop n text) v (fits_128 v) (rest_stops is_ascii_digit text) })
+    let h = mapped (λ f. (t.Number (signed is_negative f.0), f.1)) (natural_at text) found e in
+    let at = natural_at-cut text h.0 h.1.0 in
+    let cut : front ++ text ≡ (front ++ at.digits) ++ h.0.1 = ap (λ x. front ++ x) at.cut ∙ sym (append_assoc front at.digits h.0.1) in
+    subst (CutsAt (front ++ text)) h.1.1 (record { form = front ++ at.digits; cut = cut; written = begins at.digits h.0.0 at.natural; ends = at.ends })
 
 sign_number_cuts : (b byte : ℕ) (bs : List ℕ) (is_negative : Bool) (found : Token × List ℕ) → Begins (byte ∷ []) is_negative → eqb b byte ≡ true → number_at is_negative bs ≡ Some found → CutsAt (b ∷ bs) found
 sign_number_cuts b byte bs is_negative found begins same e =
@@ -80,7 +60,7 @@ sign_number_cuts b byte bs is_negative found begins same e =
 
 -- ---- words
 
-begins_in_word : (b : ℕ) → begins_word b ≡ true → in_word b ≡ true
+pub begins_in_word : (b : ℕ) → begins_word b ≡ true → in_word b ≡ true
 begins_in_word b e = rw e refl
 
 front_is_word : (b : ℕ) (bs : List ℕ) → begins_word b ≡ true → is_word (take (prefix_len in_word (b ∷ bs)) (b ∷ bs)) ≡ true

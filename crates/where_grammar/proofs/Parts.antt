@@ -1,19 +1,15 @@
 -- The truth of a clause from that of its parts.
 use Rattle.std.proofs.Common.{◌≡◌, Bool, not, ◌&&◌, ◌||◌, List, [], ◌∷◌, map, refl, sym, ap, ◌∙◌}
-use Rattle.std.specs.Prelude.{ℕ, ℤ, int_lt}
 use Rattle.std.specs.List.{list_all, list_any}
 use Rattle.fb_types.specs.declared.cells.Cell.{Cell}
 use Rattle.fb_types.specs.declared.schemas.Column.{Column}
 use Rattle.where_grammar.specs.declared.clause.Atom.{Atom}
-use Rattle.where_grammar.specs.declared.clause.Atom.TheVariants as atom
-use Rattle.where_grammar.specs.declared.clause.Op.TheVariants as op
 use Rattle.where_grammar.specs.declared.clause.Clause.{Clause}
 use Rattle.where_grammar.specs.declared.clause.Clause.TheVariants as clause
 use Rattle.where_grammar.specs.declared.clause.Clause.TheVariants.{rolls-Or, rolls-Xor, rolls-And, rolls-Not, rolls-One}
 use Rattle.where_grammar.specs.declared.clause.Clause.TheOpen.{Clause-F}
 use Rattle.where_grammar.specs.declared.clause.Clause.TheFolds.{fold-Clause, fold-roll-Clause}
-use Rattle.where_grammar.specs.Holds.{cell_named, number_passes, atom_holds, odd_many, holds_by_parts, holds}
-use Rattle.where_grammar.specs.Language.{less_than}
+use Rattle.where_grammar.specs.Holds.{atom_holds, odd_many, holds_by_parts, holds}
 
 any_mapped : {X : Type 0} (f : X → Bool) (xs : List X) → list_any (λ b. b) (map f xs) ≡ list_any f xs
 any_mapped f [] = refl
@@ -47,7 +43,3 @@ pub holds-xor : (parts : List Clause) (columns : List Column) (cells : List Cell
 holds-xor parts columns cells =
     let step = holds_by_parts columns cells in
     ap (fold-Clause Bool step) (sym (rolls-Xor parts)) ∙ fold-roll-Clause Bool step (Clause-F.Xor parts)
-
--- `name < value` holds of a record whose number in that column is below
-pub holds-less_than : (name : List ℕ) (value : ℤ) (columns : List Column) (cells : List Cell) → holds (less_than name value) columns cells ≡ number_passes (λ n. int_lt n value) (cell_named columns cells name)
-holds-less_than name value columns cells = holds-one (atom.Compare name op.Less value) columns cells

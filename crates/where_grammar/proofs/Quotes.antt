@@ -2,8 +2,9 @@
 use Rattle.std.proofs.Common.{◌≡◌, ℕ, Bool, true, false, List, [], ◌∷◌, ◌++◌, refl, sym, ap, subst, ◌∙◌, inl, inr, eqb, eqb-true, eq-eqb}
 use Rattle.std.specs.Prelude.{Option, Some, None}
 use Rattle.std.specs.Option.{option_map}
-use Rattle.where_grammar.specs.Tokens.{doubled, StopsAt, with_byte, unquoted}
-use Rattle.where_grammar.proofs.Cases.{chosen, mapped}
+use Rattle.where_grammar.specs.Tokens.{doubled, with_byte, unquoted}
+use Rattle.lexing.specs.Blanks.{StopsAt}
+use Rattle.lexing.proofs.Cases.{chosen, mapped}
 
 -- ---- one step
 

@@ -1,14 +1,14 @@
 -- What the bytes of a sign are.
-use Rattle.std.proofs.Common.{◌≡◌, ℕ, Bool, true, false, cond, List, [], ◌∷◌, refl, sym, ap, subst, inl, inr, eqb, eqb-true}
-use Rattle.std.specs.Prelude.{Option, Some, None, ◌&&◌, codes}
+use Rattle.std.proofs.Common.{◌≡◌, ℕ, Bool, true, false, cond, refl, sym, subst, inl, inr, eqb, eqb-true}
+use Rattle.std.specs.Prelude.{Option, Some, None, ◌&&◌}
 use Rattle.std.specs.Char.{is_ascii_digit}
 use Rattle.where_grammar.specs.declared.clause.Op.TheVariants as op
 use Rattle.where_grammar.specs.declared.token.Sign.{Sign}
 use Rattle.where_grammar.specs.declared.token.Sign.TheVariants as sign
-use Rattle.where_grammar.specs.Tokens.{is_blank, is_quote, begins_word, double_sign, single_sign, sign_of}
-use Rattle.where_grammar.specs.Language.{is_less}
-use Rattle.where_grammar.proofs.Cases.{chosen}
-use Rattle.where_grammar.proofs.Runs.{and_parts}
+use Rattle.lexing.specs.Blanks.{is_blank}
+use Rattle.where_grammar.specs.Tokens.{is_quote, begins_word, double_sign, single_sign}
+use Rattle.lexing.proofs.Cases.{chosen}
+use Rattle.std.proofs.lemmas.Bool.{and_parts}
 
 step : (P : Sign → Type 0) (test : Bool) (here : Sign) (others : Option Sign) (s : Sign) → cond test (Some here) others ≡ Some s → (test ≡ true → P here) → (others ≡ Some s → P s) → P s
 step P test here others s e this more =
@@ -45,24 +45,6 @@ by_double P a b s e less greater equal differs other and_sign or_sign =
     step P (eqb a 60 && eqb b 62) (sign.Op op.Differs) _ s e4 (λ h. other (and_parts _ _ h).0) (λ e5.
     step P (eqb a 38 && eqb b 38) sign.And _ s e5 (λ h. and_sign (and_parts _ _ h).0) (λ e6.
     step P (eqb a 124 && eqb b 124) sign.Or _ s e6 (λ h. or_sign (and_parts _ _ h).0) (no_sign P s)))))))
-
--- ---- `<`
-
-less_single : (b : ℕ) (s : Sign) → single_sign b ≡ Some s → is_less s ≡ true → b ≡ 60
-less_single b s e =
-    let P : Sign → Type 0 = λ found. is_less found ≡ true → b ≡ 60 in
-    by_single P b s e (λ same less. eqb-true b 60 same) (λ same less. cc) (λ same less. cc) (λ same less. cc) (λ same less. cc) (λ same less. cc) (λ same less. cc) (λ same less. cc)
-
--- no sign of two bytes is `<`
-double_is_other : (a b : ℕ) (s : Sign) → double_sign a b ≡ Some s → is_less s ≡ false
-double_is_other a b s e =
-    by_double (λ found. is_less found ≡ false) a b s e (λ same. refl) (λ same. refl) (λ same. refl) (λ same. refl) (λ same. refl) (λ same. refl) (λ same. refl)
-
-pub less_written : (form : List ℕ) (s : Sign) → sign_of form ≡ Some s → is_less s ≡ true → form ≡ codes "<"
-less_written [] s e less = absurd cc
-less_written (a ∷ []) s e less = ap (λ b. b ∷ []) (less_single a s e less)
-less_written (a ∷ b ∷ []) s e less = let other : is_less s ≡ false = double_is_other a b s e in absurd cc
-less_written (a ∷ b ∷ c ∷ bs) s e less = absurd cc
 
 -- ---- no other token begins with the first byte of a sign
 

@@ -14,7 +14,7 @@ use Rattle.where_grammar.specs.declared.clause.Atom.TheVariants as atom
 use Rattle.where_grammar.specs.declared.clause.Clause.{Clause}
 use Rattle.where_grammar.specs.declared.clause.Clause.TheOpen.{Clause-F}
 use Rattle.where_grammar.specs.declared.clause.Clause.TheFolds.{fold-Clause}
-use Rattle.where_grammar.specs.Like.{like}
+use Rattle.patterns.specs.Like.{like}
 
 -- the cell in the column of that name, null where the schema has none
 abbrev pub cell_named : List Column → List Cell → List ℕ → Cell

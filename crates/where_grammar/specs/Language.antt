@@ -1,114 +1,102 @@
 -- Which clause a text spells, and what is said of a text that spells none.
-use Rattle.std.specs.Prelude.{◌≡◌, ℕ, Bool, true, false, if◌then◌else◌, List, [], ◌∷◌, ◌++◌, drop, take, Option, Some, None, Result, Ok, Err, ℤ, codes}
-use Rattle.std.specs.List.{prefix_len, list_all}
-use Rattle.std.specs.Str.{str_eq_ignore_ascii_case}
-use Rattle.fb_types.specs.Names.{column_name}
-use Rattle.fb_types.specs.Field.{whole_of}
-use Rattle.where_grammar.specs.declared.clause.Op.TheVariants as op
-use Rattle.where_grammar.specs.declared.clause.Atom.TheVariants as atom
+use Rattle.std.specs.Prelude.{◌≡◌, ◌≤◌, ◌<◌, ⊤, ℕ, true, false, nat_lt, if◌then◌else◌, List, ◌++◌, length, drop, take, Option, Some, None, Result, Ok, Err, codes}
+use Rattle.std.specs.List.{list_all, prefix_len}
+use Rattle.std.specs.Str.{str_eq_ignore_ascii_case, str_to_ascii_lowercase}
+use Rattle.lexing.specs.Blanks.{StopsAt, is_blank}
 use Rattle.where_grammar.specs.declared.clause.Clause.{Clause}
-use Rattle.where_grammar.specs.declared.clause.Clause.TheVariants as clause
 use Rattle.where_grammar.specs.declared.clause.QueryKind.{QueryKind}
 use Rattle.where_grammar.specs.declared.clause.QueryKind.TheVariants as kind
 use Rattle.where_grammar.specs.declared.clause.ClauseFault.{ClauseFault}
 use Rattle.where_grammar.specs.declared.clause.ClauseFault.TheVariants as fault
-use Rattle.where_grammar.specs.declared.token.Sign.{Sign}
-use Rattle.where_grammar.specs.declared.token.Sign.TheVariants as sign
-use Rattle.where_grammar.specs.declared.token.Token.{Token}
-use Rattle.where_grammar.specs.declared.token.Token.TheVariants as t
-use Rattle.where_grammar.specs.Tokens.{is_blank, in_word, fits_128, tokens_of}
+use Rattle.where_grammar.specs.declared.clause.ClauseRead.{ClauseRead}
+use Rattle.where_grammar.specs.declared.token.Placed.{Placed}
+use Rattle.where_grammar.specs.Tokens.{Spells, StopsWith, in_word, tokens_of}
+use Rattle.where_grammar.specs.Nesting.{is_deep}
+use Rattle.where_grammar.specs.Grammar.{IsClause}
+use Rattle.where_grammar.specs.Parsing.{bare, clause_of, long_of}
 
 -- ---- what a text spells
 
--- `name < value`
-abbrev pub less_than : List ℕ → ℤ → Clause
-less_than name value = clause.One (atom.Compare name op.Less value)
+-- The text has at most 1,048,576 bytes, spells these tokens, and they don't nest too deep.
+pub record HasTokens (text : List ℕ) (tokens : List Placed) : Type 0 where
+  pub fits : length text ≤ 1048576
+  pub spelled : Spells text tokens
+  pub shallow : is_deep (bare tokens) ≡ false
 
--- A column name in either case, `<` and a number, with blanks between, before and after.
-pub record IsLessThan (name : List ℕ) (value : ℤ) (text : List ℕ) : Type 0 where
-  pub before : List ℕ
-  pub word : List ℕ
-  pub left : List ℕ
-  pub right : List ℕ
-  pub numeral : List ℕ
-  pub after : List ℕ
-  pub cut : text ≡ before ++ (word ++ (left ++ (codes "<" ++ (right ++ (numeral ++ after)))))
-  pub all_blank : list_all is_blank (before ++ (left ++ (right ++ after))) ≡ true
-  pub named : column_name word ≡ Some name
-  pub written : whole_of numeral ≡ Some value
+-- The text has no tokens for this reason, the first one that holds.
+pub data NoTokens (text : List ℕ) : QueryKind → Type 0 where
+  too_long : 1048576 < length text → NoTokens text kind.Length
+  stopped : (k : QueryKind) → length text ≤ 1048576 → StopsWith text k → NoTokens text k
+  too_deep : (tokens : List Placed) → length text ≤ 1048576 → Spells text tokens → is_deep (bare tokens) ≡ true → NoTokens text kind.Depth
 
--- the number has to be one of signed 128 bits
-abbrev pub limited : List ℕ → ℤ → Result Clause QueryKind
-limited name value = if fits_128 value then Ok (less_than name value) else Err kind.Literal
+-- The text is this clause, whose lists have at most 4,096 items each.
+pub record SpellsClause (c : Clause) (text : List ℕ) : Type 0 where
+  pub tokens : List Placed
+  pub has : HasTokens text tokens
+  pub clause : IsClause c (bare tokens)
+  pub short : long_of tokens ≡ None
 
--- the text spells the clause
-abbrev pub SpellsClause : Clause → List ℕ → Type 0
-SpellsClause c text = (name : List ℕ) × (value : ℤ) × (c ≡ less_than name value) × IsLessThan name value text × (fits_128 value ≡ true)
-
--- the text has no clause for this reason
-abbrev pub IsRefusedFor : QueryKind → List ℕ → Type 0
-IsRefusedFor kind.Syntax text = (name : List ℕ) (value : ℤ) → IsLessThan name value text → ⊥
-IsRefusedFor kind.Literal text = (name : List ℕ) × (value : ℤ) × IsLessThan name value text × (fits_128 value ≡ false)
-IsRefusedFor (kind.Unknown name) text = ⊥
+-- The text is no such clause for this reason, the first one that holds.
+pub data NoClause (text : List ℕ) : QueryKind → Type 0 where
+  no_tokens : (k : QueryKind) → NoTokens text k → NoClause text k
+  no_clause : (tokens : List Placed) → HasTokens text tokens → ((c : Clause) → IsClause c (bare tokens) → ⊥) → NoClause text kind.Syntax
+  long_list : (tokens : List Placed) (c : Clause) (at : ℕ) → HasTokens text tokens → IsClause c (bare tokens) → long_of tokens ≡ Some at → NoClause text kind.ListLength
 
 -- ---- the answer for a text, as a function
 
-abbrev pub name_in : Token → Option (List ℕ)
-name_in (t.Word word) = column_name word
-name_in (t.Number value) = None
-name_in t.Large = None
-name_in (t.Text word) = None
-name_in (t.Sign s) = None
+abbrev pub shallow_or_refused : Result (List Placed) QueryKind → Result (List Placed) QueryKind
+shallow_or_refused (Ok tokens) = if is_deep (bare tokens) then Err kind.Depth else Ok tokens
+shallow_or_refused (Err k) = Err k
 
-abbrev pub is_less : Sign → Bool
-is_less (sign.Op op.Less) = true
-is_less _ = false
+-- the tokens of a text, or the first refusal
+unfoldable pub read_tokens : List ℕ → Result (List Placed) QueryKind
+read_tokens text = if nat_lt 1048576 (length text) then Err kind.Length else shallow_or_refused (tokens_of text)
 
-abbrev pub is_less_sign : Token → Bool
-is_less_sign (t.Word word) = false
-is_less_sign (t.Number value) = false
-is_less_sign t.Large = false
-is_less_sign (t.Text word) = false
-is_less_sign (t.Sign s) = is_less s
+abbrev pub listed : Option ℕ → Clause → Result Clause QueryKind
+listed None c = Ok c
+listed (Some at) c = Err kind.ListLength
 
-abbrev pub value_in : Token → Result ℤ QueryKind
-value_in (t.Word word) = Err kind.Syntax
-value_in (t.Number value) = Ok value
-value_in t.Large = Err kind.Literal
-value_in (t.Text word) = Err kind.Syntax
-value_in (t.Sign s) = Err kind.Syntax
+abbrev pub spelled_by : List Placed → Option Clause → Result Clause QueryKind
+spelled_by tokens None = Err kind.Syntax
+spelled_by tokens (Some c) = listed (long_of tokens) c
 
-abbrev pub compared : Option (List ℕ) → Bool → Result ℤ QueryKind → Result Clause QueryKind
-compared None less value = Err kind.Syntax
-compared (Some name) false value = Err kind.Syntax
-compared (Some name) true (Err kind) = Err kind
-compared (Some name) true (Ok value) = Ok (less_than name value)
-
--- the clause that tokens spell; as yet the clauses are those of a name, `<` and a number
-unfoldable pub clause_of : List Token → Result Clause QueryKind
-clause_of (name ∷ less ∷ value ∷ []) = compared (name_in name) (is_less_sign less) (value_in value)
-clause_of _ = Err kind.Syntax
-
-abbrev pub clause_by : Option (List Token) → Result Clause QueryKind
-clause_by None = Err kind.Syntax
-clause_by (Some tokens) = clause_of tokens
+abbrev pub read_by : Result (List Placed) QueryKind → Result Clause QueryKind
+read_by (Ok tokens) = spelled_by tokens (clause_of (bare tokens))
+read_by (Err k) = Err k
 
 -- the clause that a text spells, or the first refusal
 unfoldable pub read_where : List ℕ → Result Clause QueryKind
-read_where text = clause_by (tokens_of text)
+read_where text = read_by (read_tokens text)
 
--- a call's answer is this one, unless memory ran out
-abbrev pub Gives : Result Clause ClauseFault → Result Clause QueryKind → Type 0
-Gives (Ok c) answer = answer ≡ Ok c
-Gives (Err fault.OutOfMemory) answer = Unit {0}
-Gives (Err (fault.Bad kind)) answer = answer ≡ Err kind
+-- ---- answers of calls
 
--- a call's fault is the text's, unless memory ran out
-abbrev pub IsFaultOf : List ℕ → ClauseFault → Type 0
-IsFaultOf text (fault.Bad kind) = IsRefusedFor kind text
-IsFaultOf text fault.OutOfMemory = Unit {0}
+-- the refusal that a fault tells of a text; want of memory tells none
+abbrev pub refusal : ClauseFault → Option QueryKind
+refusal (fault.Bad k) = Some k
+refusal fault.OutOfMemory = None
+
+-- the clause of tokens, with the place of its first long list
+abbrev pub clause_read : List Placed → Option Clause → Result ClauseRead QueryKind
+clause_read tokens None = Err kind.Syntax
+clause_read tokens (Some c) = Ok (record { clause = c; long = long_of tokens })
+
+-- what is told of tokens that are no clause
+abbrev pub IsNoClause : List Placed → QueryKind → Type 0
+IsNoClause tokens kind.Syntax = (c : Clause) → IsClause c (bare tokens) → ⊥
+IsNoClause tokens k = ⊥
 
 -- ---- the text of a query
+
+-- blanks, the word `where` in either case, and the rest, which begins with no letter, digit or `_`
+pub record FollowsWhere (text rest : List ℕ) : Type 0 where
+  pub blanks : List ℕ
+  pub word : List ℕ
+  pub cut : text ≡ blanks ++ (word ++ rest)
+  pub all_blank : list_all is_blank blanks ≡ true
+  pub is_where : str_to_ascii_lowercase word ≡ codes "where"
+  pub ends : StopsAt in_word rest
+
+-- the same, as a function
 
 -- what follows the word that is at the front, where that word is `where`
 abbrev pub behind_where : List ℕ → Option (List ℕ)

@@ -1,5 +1,9 @@
-pub mod Like
 pub mod Holds
 pub mod Tokens
+pub mod Shorter
+pub mod Nesting
+pub mod Grammar
+pub mod Parsing
 pub mod Language
+pub mod Printed
 pub mod Rows

@@ -1,22 +1,24 @@
 -- Which tokens a text spells.
-use Rattle.std.specs.Prelude.{◌≡◌, ℕ, zero, suc, ◌-◌, ◌^◌, Bool, true, false, ◌&&◌, ◌||◌, if◌then◌else◌, ◌==◌, List, [], ◌∷◌, ◌++◌, length, take, drop, Option, Some, None, is_some, ℤ, pos, neg_ℤ, int_le}
-use Rattle.std.specs.Option.{option_map, option_and_then}
+use Rattle.std.specs.Prelude.{◌≡◌, ℕ, ◌-◌, ◌^◌, nat_lt, Bool, true, false, ◌&&◌, ◌||◌, if◌then◌else◌, ◌==◌, List, [], ◌∷◌, ◌++◌, length, take, drop, Option, Some, None, is_some, Result, Ok, Err, ℤ, pos, neg_ℤ, int_le}
+use Rattle.std.proofs.Common.{Bor}
+use Rattle.std.specs.Option.{option_map}
 use Rattle.std.specs.List.{prefix_len, list_all}
 use Rattle.std.specs.Char.{is_ascii_digit, is_ascii_lowercase, is_ascii_uppercase}
 use Rattle.std.specs.Str.{str_to_ascii_lowercase}
-use Rattle.std.specs.Str.Parse.{digits_value}
 use Rattle.fb_types.specs.Field.{whole_of}
+use Rattle.lexing.specs.Blanks.{StopsAt}
+use Rattle.lexing.specs.Digits.{natural_at, signed}
+use Rattle.lexing.specs.Tokens as lexing
+use Rattle.where_grammar.specs.declared.clause.QueryKind.{QueryKind}
+use Rattle.where_grammar.specs.declared.clause.QueryKind.TheVariants as kind
 use Rattle.where_grammar.specs.declared.clause.Op.TheVariants as op
 use Rattle.where_grammar.specs.declared.token.Sign.{Sign}
 use Rattle.where_grammar.specs.declared.token.Sign.TheVariants as sign
 use Rattle.where_grammar.specs.declared.token.Token.{Token}
 use Rattle.where_grammar.specs.declared.token.Token.TheVariants as t
+use Rattle.where_grammar.specs.declared.token.Placed.{Placed}
 
 -- ---- bytes
-
--- space, tab, line feed, carriage return
-abbrev pub is_blank : ℕ → Bool
-is_blank b = b == 32 || b == 9 || b == 10 || b == 13
 
 -- a letter or `_` (95)
 abbrev pub begins_word : ℕ → Bool
@@ -82,11 +84,10 @@ abbrev pub is_first : List ℕ → ℕ → Bool
 is_first [] b = false
 is_first (first ∷ form) b = b == first
 
--- the form of a token
+-- the form of a token; its number and its text may be of any size
 abbrev pub IsWritten : List ℕ → Token → Type 0
 IsWritten form (t.Word word) = (is_word form ≡ true) × (word ≡ str_to_ascii_lowercase form)
-IsWritten form (t.Number z) = (whole_of form ≡ Some z) × (fits_128 z ≡ true)
-IsWritten form t.Large = (z : ℤ) × (whole_of form ≡ Some z) × (fits_128 z ≡ false)
+IsWritten form (t.Number z) = whole_of form ≡ Some z
 IsWritten form (t.Text word) = IsQuoted form word
 IsWritten form (t.Sign s) = sign_of form ≡ Some s
 
@@ -94,28 +95,48 @@ IsWritten form (t.Sign s) = sign_of form ≡ Some s
 abbrev pub goes_on : List ℕ → Token → ℕ → Bool
 goes_on form (t.Word word) b = in_word b
 goes_on form (t.Number z) b = is_ascii_digit b
-goes_on form t.Large b = is_ascii_digit b
 goes_on form (t.Text word) b = is_first form b
 goes_on form (t.Sign s) b = is_some (sign_of (form ++ b ∷ []))
 
--- no such byte is at the front
-abbrev pub StopsAt : (ℕ → Bool) → List ℕ → Type 0
-StopsAt test [] = Unit {0}
-StopsAt test (b ∷ bs) = test b ≡ false
-
--- blanks, the form of the token, and a rest that it doesn't reach into
-pub record BeginsWith (text : List ℕ) (token : Token) (rest : List ℕ) : Type 0 where
-  pub blanks : List ℕ
+-- the form of the token, and a rest that it doesn't reach into
+pub record IsInFront (text : List ℕ) (token : Token) (rest : List ℕ) : Type 0 where
   pub form : List ℕ
-  pub cut : text ≡ blanks ++ (form ++ rest)
-  pub all_blank : list_all is_blank blanks ≡ true
+  pub cut : text ≡ form ++ rest
   pub written : IsWritten form token
   pub ends : StopsAt (goes_on form token) rest
 
--- The tokens, one after the other, each as long as it can be, with blanks between, before and after.
-abbrev pub Spells : List ℕ → List Token → Type 0
-Spells text [] = list_all is_blank text ≡ true
-Spells text (token ∷ tokens) = (rest : List ℕ) × (BeginsWith text token rest × Spells rest tokens)
+-- the limit that a token passes: numbers are those of signed 128 bits, and a text has at most 65,535 bytes
+abbrev pub excess : Token → Option QueryKind
+excess (t.Word word) = None
+excess (t.Number z) = if fits_128 z then None else Some kind.Literal
+excess (t.Text word) = if nat_lt 65535 (length word) then Some kind.TextLength else None
+excess (t.Sign s) = None
+
+-- a token at this place, within the limits
+pub record IsToken (at : ℕ) (text : List ℕ) (placed : Placed) (rest : List ℕ) : Type 0 where
+  pub place : placed.at ≡ at
+  pub front : IsInFront text placed.token rest
+  pub within : excess placed.token ≡ None
+
+-- a token that passes a limit
+pub record IsExcess (text : List ℕ) (kind : QueryKind) : Type 0 where
+  pub token : Token
+  pub rest : List ℕ
+  pub front : IsInFront text token rest
+  pub passed : excess token ≡ Some kind
+
+-- what is wrong where a token has to stand: there is none, or it passes a limit
+abbrev pub IsWrong : List ℕ → QueryKind → Type 0
+IsWrong text kind.Syntax = (token : Token) (rest : List ℕ) → IsInFront text token rest → ⊥
+IsWrong text kind = IsExcess text kind
+
+-- The tokens, each as long as it can be, with blanks between, before and after.
+abbrev pub Spells : List ℕ → List Placed → Type 0
+Spells text tokens = lexing.Spells IsToken (length text) text tokens
+
+-- The first place at which something is wrong has this.
+abbrev pub StopsWith : List ℕ → QueryKind → Type 0
+StopsWith text kind = lexing.StopsWith IsToken IsWrong (length text) text kind
 
 -- ---- the same, as a function
 
@@ -123,17 +144,9 @@ Spells text (token ∷ tokens) = (rest : List ℕ) × (BeginsWith text token res
 unfoldable pub word_at : List ℕ → Token × List ℕ
 word_at text = let n = prefix_len in_word text in (t.Word (str_to_ascii_lowercase (take n text)), drop n text)
 
-abbrev pub number : ℤ → Token
-number z = if fits_128 z then t.Number z else t.Large
-
-abbrev pub signed : Bool → ℕ → ℤ
-signed is_negative n = if is_negative then neg_ℤ (pos n) else pos n
-
 -- the number whose digits, one or more, stand at the front, and what follows them
 unfoldable pub number_at : Bool → List ℕ → Option (Token × List ℕ)
-number_at is_negative text =
-    let n = prefix_len is_ascii_digit text in
-    if n == 0 then None else Some (number (signed is_negative (digits_value 10 (take n text))), drop n text)
+number_at is_negative text = option_map (λ found. (t.Number (signed is_negative found.0), found.1)) (natural_at text)
 
 abbrev pub with_byte : ℕ → Option (List ℕ × List ℕ) → Option (List ℕ × List ℕ)
 with_byte b found = option_map (λ f. (b ∷ f.0, f.1)) found
@@ -173,14 +186,27 @@ token_at (b ∷ bs) =
     else (if begins_word b then Some (word_at (b ∷ bs))
     else (if is_quote b then text_at b bs else sign_at (b ∷ bs)))))
 
--- a token at each step, at most n of them with the blanks
-abbrev pub tokens_within : ℕ → List ℕ → Option (List Token)
-tokens_within n [] = Some []
-tokens_within zero (b ∷ bs) = None
-tokens_within (suc n) (b ∷ bs) =
-    if is_blank b then tokens_within n bs
-    else option_and_then (λ found. option_map (λ more. found.0 ∷ more) (tokens_within n found.1)) (token_at (b ∷ bs))
+abbrev pub limited : Token × List ℕ → Option QueryKind → Result (Token × List ℕ) QueryKind
+limited found None = Ok found
+limited found (Some kind) = Err kind
 
--- the tokens of a text, with blanks between; None where at some place no token stands
-unfoldable pub tokens_of : List ℕ → Option (List Token)
-tokens_of text = tokens_within (length text) text
+abbrev pub within_limits : Option (Token × List ℕ) → Result (Token × List ℕ) QueryKind
+within_limits None = Err kind.Syntax
+within_limits (Some found) = limited found (excess found.0)
+
+-- what a call finds, as contracts see it
+abbrev pub seen : {A K : Type 0} → Result (A × Bor (List ℕ)) K → Result (A × List ℕ) K
+seen (Ok found) = Ok (found.0, found.1.now)
+seen (Err kind) = Err kind
+
+abbrev pub placed_at : ℕ → Result (Token × List ℕ) QueryKind → Result (Placed × List ℕ) QueryKind
+placed_at at (Ok found) = Ok (record { at = at; token = found.0 }, found.1)
+placed_at at (Err kind) = Err kind
+
+-- the token at the front, within the limits, or what is wrong there
+abbrev pub reader : ℕ → List ℕ → Result (Placed × List ℕ) QueryKind
+reader at text = placed_at at (within_limits (token_at text))
+
+-- the tokens of a text with their places, or what is wrong first
+abbrev pub tokens_of : List ℕ → Result (List Placed) QueryKind
+tokens_of text = lexing.tokens_of reader text

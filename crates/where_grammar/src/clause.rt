@@ -1,5 +1,7 @@
 //! What a clause says.
 
+ghost use Rattle.std.specs.Prelude.{◌≡◌};
+
 use fb_types::{ColName, Label};
 use sqlite_items::{Boxed, Items};
 use std::alloc::AllocError;
@@ -84,15 +86,41 @@ pub enum Clause {
     One(Atom),
 }
 
+/// How the parts of a clause are joined, the loosest first.
+#[derive(Clone, Copy, Debug)]
+pub(crate) enum Join {
+    Or,
+    Xor,
+    And,
+}
+
+/// A clause read from tokens.
+#[derive(Drop)]
+pub struct ClauseRead {
+    pub clause: Clause,
+    /// The place of the name of the first condition whose list has more than 4,096 items.
+    pub long: Option<u32>,
+}
+
 /// Why a text is no query.
 #[derive(Debug, Drop)]
 pub enum QueryKind {
+    /// Over 1,048,576 bytes.
+    Length,
     /// Not in the grammar.
     Syntax,
     /// A number outside signed 128 bits.
     Literal,
-    /// A column that the schema lacks. Callers that look at a schema give it.
+    /// A text in quotes of over 65,535 bytes.
+    TextLength,
+    /// More than 64 open parentheses, or more than 16 `not` in a row.
+    Depth,
+    /// A list of more than 4,096 items.
+    ListLength,
+    /// A column that the schema lacks. Callers that look at a schema give it, and the next.
     Unknown(ColName),
+    /// A column whose type the condition doesn't fit.
+    WrongType(ColName),
 }
 
 /// Why no clause was read.
@@ -113,4 +141,10 @@ impl From<AllocError> for ClauseFault {
     fn from(_e: AllocError) -> ClauseFault {
         ClauseFault::OutOfMemory
     }
+}
+
+pub(crate) fn bad(kind: QueryKind) -> ClauseFault
+    ensures { result ≡ ClauseFault.Bad kind }
+{
+    ClauseFault::Bad { kind }
 }

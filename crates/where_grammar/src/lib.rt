@@ -1,18 +1,21 @@
 //! The conditions of queries: clauses from their text, and when a clause holds of a record.
 #![tactic(auto)]
 
+mod atoms;
 mod clause;
+mod fronts;
+mod nesting;
 mod parsing;
-mod readings;
+mod printing;
 #[cfg(test)]
 mod tests;
 mod token;
 mod truth;
 
-pub use clause::{Atom, Clause, ClauseFault, Op, QueryKind};
-pub use parsing::{after_where, parse_where};
-pub use readings::{the_readings_of_clauses, the_readings_of_queries};
+pub use clause::{Atom, Clause, ClauseFault, ClauseRead, Op, QueryKind};
+pub use parsing::{after_where, clause_of, parse_where, the_grammar_is_unambiguous};
+pub use printing::print_where;
+pub use token::{Placed, Sign, Token, tokens};
 pub use truth::{
-    the_truth_of_a_negation, the_truth_of_clauses, the_truth_of_numbers, the_truth_of_patterns,
-    the_truth_of_words,
+    the_truth_of_a_negation, the_truth_of_clauses, the_truth_of_numbers, the_truth_of_words,
 };

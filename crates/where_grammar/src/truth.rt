@@ -7,8 +7,7 @@ ghost use Rattle.fb_types.specs.declared.cells.Cell.TheVariants.{Null};
 ghost use Rattle.fb_types.specs.declared.schemas.Column.{Column};
 ghost use Rattle.where_grammar.specs.declared.clause.Atom.{Atom};
 ghost use Rattle.where_grammar.specs.declared.clause.Clause.{Clause};
-ghost use Rattle.where_grammar.specs.Holds.{atom_holds, holds, odd_many};
-ghost use Rattle.where_grammar.specs.Like.{like};
+ghost use Rattle.where_grammar.specs.Holds.{atom_holds, compares, holds, odd_many};
 ghost use Rattle.where_grammar.specs.Rows.{columns, numbers, truths, words};
 
 use crate::clause::{Atom, Clause, Op};
@@ -48,19 +47,23 @@ pub fn the_truth_of_words()
     ensures no_number { truths (Atom.Compare (codes "a") Op.Differs (pos 3)) words ≡ false ∷ false ∷ false ∷ false ∷ [] }
 {}
 
-/// Texts that are, or aren't, of the form of a pattern; 195 and 169 are one character.
-pub fn the_truth_of_patterns()
-    ensures one { like (codes "w_") (codes "w5") ≡ true }
-    ensures one_character { like (codes "w_") (119 ∷ 195 ∷ 169 ∷ []) ≡ true }
-    ensures not_two { like (codes "w_") (codes "w55") ≡ false }
-    ensures any { like (codes "%b") (codes "ab") ≡ true }
-    ensures any_in_between { like (codes "a%c%e") (codes "abcde") ≡ true }
-    ensures none { like [] (codes "a") ≡ false }
-    ensures empty { like (codes "%") [] ≡ true }
-    ensures by_case { like (codes "W") (codes "w") ≡ false }
-{}
-
 /// `not (a < 5)` holds where `a` is null.
 pub fn the_truth_of_a_negation()
     ensures { holds (Clause.Not (Clause.One (Atom.Compare (codes "a") Op.Less (pos 5)))) columns (Null ∷ []) ≡ true }
 {}
+
+impl Op {
+    /// Whether the number stands so to the limit.
+    pub fn holds(self, number: i128, limit: i128) -> bool
+        ensures { result ≡ compares self number limit }
+    {
+        match self {
+            Op::Less => number < limit,
+            Op::LessEq => number <= limit,
+            Op::Greater => number > limit,
+            Op::GreaterEq => number >= limit,
+            Op::Equal => number == limit,
+            Op::Differs => number != limit,
+        }
+    }
+}

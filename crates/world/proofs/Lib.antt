@@ -1,3 +1,5 @@
 pub mod MapLemmas
-pub mod StandLemmas
-pub mod OneIntLemmas
+pub mod PieceLemmas
+pub mod ContentLemmas
+pub mod FileLemmas
+pub mod KeptLemmas

@@ -1,5 +1,5 @@
 -- Maps from the bytes of names, after one name is set.
-use Rattle.std.proofs.Common.{◌≡◌, ◌≢◌, ℕ, Bool, true, false, cond, List, Some, refl, ap, ◌∙◌}
+use Rattle.std.proofs.Common.{◌≡◌, ◌≢◌, ◌⊎◌, inl, inr, ℕ, Bool, true, false, cond, List, Some, refl, ap, ◌∙◌}
 use Rattle.std.specs.Ordering.{nat_cmp}
 use Rattle.std.specs.Cmp.Lexicographic.{slice_cmp}
 use Rattle.std.specs.FinMap.{FinMap, get, insert, get-insert}
@@ -21,3 +21,11 @@ module _ {X : Type 0} (m : FinMap (slice_cmp nat_cmp) X) (k : List ℕ) (v : X) 
 
   pub get-insert_other : (q : List ℕ) → q ≢ k → get (insert m k v) q ≡ get m q
   get-insert_other q n = by_test q false (apart q (bytes_eq q k) refl n)
+
+-- two names are one or not
+pub same_or_apart : (p q : List ℕ) → (p ≡ q) ⊎ (p ≢ q)
+same_or_apart p q = by_test (bytes_eq p q) refl
+  where
+    by_test : (b : Bool) → bytes_eq p q ≡ b → (p ≡ q) ⊎ (p ≢ q)
+    by_test true h = inl ((bytes_eq-Decides p q).0 h)
+    by_test false h = inr (λ e. let k : bytes_eq p q ≡ true = (bytes_eq-Decides p q).1 e in cc)

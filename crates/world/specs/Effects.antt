@@ -1,21 +1,55 @@
 -- What commands do to the world, one effect after another.
-use Rattle.std.specs.Prelude.{ℕ, List, [], ◌∷◌}
+use Rattle.std.specs.Prelude.{ℕ, ◌+◌, ◌*◌, List, [], ◌∷◌, ◌++◌, length, map, take, drop, Option, Some, None}
+use Rattle.std.specs.Int.{div_ceil}
+use Rattle.std.specs.List.{range_with_len}
 use Rattle.fb_types.specs.declared.cells.Cell.{Cell}
 use Rattle.fb_types.specs.declared.schemas.Column.{Column}
-use Rattle.world.specs.World.{Dataset, World, with_dataset}
+use Rattle.world.specs.World.{Content, Partition, World, content_at, with_content}
 
--- a load of these records into the dataset at a path
+-- a load of these records, with so many in a part, into the dataset at a path
 pub data Effect : Type 0 where
-  Loads : (path : List ℕ) (schema : List Column) (records : List (List Cell)) → Effect
+  Loads : (path : List ℕ) (schema : List Column) (per_part : ℕ) (records : List (List Cell)) → Effect
 
--- A dataset takes one load as yet: its records are the part of number 0, where there are any.
-abbrev pub loaded_dataset : List Column → List (List Cell) → Dataset
-loaded_dataset schema [] = record { schema = schema; next = 0; parts = [] }
-loaded_dataset schema (cells ∷ records) =
-    record { schema = schema; next = 1; parts = record { number = 0; records = cells ∷ records } ∷ [] }
+-- ---- the parts of a load
+
+-- how many parts so many records make
+abbrev pub part_count : (per_part rows : ℕ) → ℕ
+part_count per_part rows = div_ceil rows per_part
+
+-- the records of the part at a place: so many, and in the last one what is left
+abbrev pub piece : ℕ → List (List Cell) → ℕ → List (List Cell)
+piece per_part records place = take per_part (drop (place * per_part) records)
+
+abbrev pub new_part : (next per_part : ℕ) → List (List Cell) → ℕ → Partition
+new_part next per_part records place = record { number = next + place; records = piece per_part records place }
+
+-- the parts, numbered from `next` on
+abbrev pub new_parts : (next per_part : ℕ) → List (List Cell) → List Partition
+new_parts next per_part records =
+    map (new_part next per_part records) (range_with_len 0 (part_count per_part (length records)))
+
+-- ---- the dataset after it
+
+-- a dataset without parts
+abbrev pub empty_content : List Column → Content
+empty_content schema = record { schema = schema; next = 0; parts = [] }
+
+abbrev pub found_or_empty : List Column → Option Content → Content
+found_or_empty schema None = empty_content schema
+found_or_empty schema (Some content) = content
+
+abbrev pub extended : Content → (per_part : ℕ) → List (List Cell) → Content
+extended content per_part records = record {
+  schema = content.schema;
+  next = content.next + part_count per_part (length records);
+  parts = content.parts ++ new_parts content.next per_part records;
+}
+
+-- ---- the world after it
 
 abbrev pub after_one : World → Effect → World
-after_one world (Loads path schema records) = with_dataset world path (loaded_dataset schema records)
+after_one world (Loads path schema per_part records) =
+    with_content world path (extended (found_or_empty schema (content_at world path)) per_part records)
 
 -- the world after these effects, the first of them first
 abbrev pub after : World → List Effect → World

@@ -1,3 +1,4 @@
 pub mod World
+pub mod PartFiles
 pub mod Stands
 pub mod Effects

@@ -1,55 +1,52 @@
--- What the files of a dataset are, and which files stand for a world.
-use Rattle.std.specs.Prelude.{◌≡◌, ◌⊎◌, ℕ, ℤ, pos, List, [], ◌∷◌, map, Option, Some, None, IfSome, slice_get, slice_index_or}
+-- Which files stand for a world.
+use Rattle.std.specs.Prelude.{◌≡◌, ◌≤◌, ◌<◌, ℕ, List, ◌++◌, Option, Some, None}
+use Rattle.std.specs.FinMap.{get}
 use Rattle.std.specs.List.{All}
+use lib.Chars.{codes}
 use Rattle.fb_outside.specs.Files.{Files, file_at}
 use Rattle.fb_outside.specs.Names.{IsPath}
-use Rattle.fb_types.specs.declared.cells.Cell.{Cell}
-use Rattle.fb_types.specs.declared.cells.Cell.TheVariants.{Null, Whole, Word}
+use Rattle.fb_outside.specs.Puts.{IsThere}
 use Rattle.fb_types.specs.declared.schemas.Column.{Column}
-use Rattle.column_file.specs.Values.{values_bytes}
-use Rattle.part_meta.specs.declared.catalog.Catalog.{Catalog}
+use Rattle.fb_types.specs.Names.{IsColumnName}
 use Rattle.part_meta.specs.CatalogText.{catalog_text}
-use Rattle.part_meta.specs.FileNames.{catalog_name, values_name}
-use Rattle.world.specs.World.{Partition, Dataset, World, IsDataset, IsOneInt, dataset_at}
+use Rattle.part_meta.specs.FileNames.{catalog_name, index_name}
+use Rattle.world.specs.World.{Partition, Content, World, IsContent, catalog_data, content_at}
+use Rattle.world.specs.PartFiles.{part_files}
 
--- the number that stands for a cell in a values file: 0 where the cell has none
-abbrev pub stored_number : Cell → ℤ
-stored_number (Whole number) = number
-stored_number Null = pos 0
-stored_number (Word word) = pos 0
+-- the column has no index in that part
+abbrev pub IsUnindexed : Files → List ℕ → ℕ → List ℕ → Type 0
+IsUnindexed files dir number name = file_at files (index_name dir number name) ≡ None
 
--- a column of the records, from the top
-abbrev pub column_numbers : ℕ → List (List Cell) → List ℤ
-column_numbers col records = map (λ cells. stored_number (slice_index_or cells col Null)) records
+-- the part's files are there, and as yet no index
+pub record PartRests (files : Files) (dir : List ℕ) (schema : List Column) (part : Partition) : Type 0 where
+  pub listed : All (IsThere files) (part_files dir schema part)
+  pub unindexed : All (λ column. IsUnindexed files dir part.number column.name) schema
 
-abbrev pub catalog_data : Dataset → Catalog
-catalog_data dataset = record { schema = dataset.schema; next = dataset.next; parts = map (λ part. part.number) dataset.parts }
+-- the files under a path are the dataset's; a part that is still to come has no index
+pub record Rests (files : Files) (dir : List ℕ) (content : Content) : Type 0 where
+  pub catalog : file_at files (catalog_name dir) ≡ Some (catalog_text (catalog_data content))
+  pub parts : All (PartRests files dir content.schema) content.parts
+  pub unindexed : (number : ℕ) → content.next ≤ number → number < 4096
+      → All (λ column. IsUnindexed files dir number column.name) content.schema
 
--- A catalog that a load writes: as yet of one `int` column, and of no part or of the part of number 0 alone.
-pub record IsLoaded (catalog : Catalog) : Type 0 where
-  pub schema : IsOneInt catalog.schema
-  pub parts : ((catalog.next ≡ 0) × (catalog.parts ≡ [])) ⊎ ((catalog.next ≡ 1) × (catalog.parts ≡ 0 ∷ []))
+-- no dataset: neither a catalog nor an index
+pub record IsFree (files : Files) (dir : List ℕ) : Type 0 where
+  pub catalog : file_at files (catalog_name dir) ≡ None
+  pub unindexed : (number : ℕ) (name : List ℕ) → number < 4096 → IsColumnName name → IsUnindexed files dir number name
 
-abbrev pub catalog_bytes : Dataset → List ℕ
-catalog_bytes dataset = catalog_text (catalog_data dataset)
+-- the name of an input file
+pub record IsInputName (name : List ℕ) : Type 0 where
+  pub stem : List ℕ
+  pub is : name ≡ stem ++ codes ".csv"
 
--- each column's values file has the part's numbers
-abbrev pub PartRests : Files → List ℕ → List Column → Partition → Type 0
-PartRests files dir schema part =
-    (col : ℕ) → IfSome (slice_get schema col) (λ column.
-    file_at files (values_name dir part.number column.name) ≡ Some (values_bytes column.ty (column_numbers col part.records)))
-
--- the files under a path are the dataset's
-pub record Rests (files : Files) (dir : List ℕ) (dataset : Dataset) : Type 0 where
-  pub catalog : file_at files (catalog_name dir) ≡ Some (catalog_bytes dataset)
-  pub parts : All (PartRests files dir dataset.schema) dataset.parts
-
--- The files stand for the world: each dataset's are there, and no other path has a catalog. All other files are free.
+-- The files stand for the world: each dataset's are there, every other path is free, and the input files are the world's.
+-- All other files may be there or not.
 pub record Stands (files : Files) (world : World) : Type 0 where
-  pub paths : (path : List ℕ) (dataset : Dataset) → dataset_at world path ≡ Some dataset → IsPath path
-  pub valid : (path : List ℕ) (dataset : Dataset) → dataset_at world path ≡ Some dataset → IsDataset dataset
-  pub rests : (path : List ℕ) (dataset : Dataset) → dataset_at world path ≡ Some dataset → Rests files path dataset
-  pub free : (path : List ℕ) → IsPath path → dataset_at world path ≡ None → file_at files (catalog_name path) ≡ None
+  pub paths : (path : List ℕ) (content : Content) → content_at world path ≡ Some content → IsPath path
+  pub valid : (path : List ℕ) (content : Content) → content_at world path ≡ Some content → IsContent content
+  pub rests : (path : List ℕ) (content : Content) → content_at world path ≡ Some content → Rests files path content
+  pub free : (path : List ℕ) → IsPath path → content_at world path ≡ None → IsFree files path
+  pub inputs : (name : List ℕ) → IsInputName name → file_at files name ≡ get world.inputs name
 
 -- the same of a store, which may not tell its files
 abbrev pub StandsFor : Option Files → World → Type 0

@@ -1,26 +1,22 @@
-use Rattle.std.proofs.Common.{◌∙◌, sym, ap}
-use Rattle.ardea.specs.Load.{not_loadable}
-use Rattle.ardea.proofs.LoadLemmas.{loads_schema, one_int, refused_column, refused_schema}
+use Rattle.std.proofs.Common.{◌≡◌, ◌∙◌, List, ℕ, Ok, Err, subst, arith}
+use Rattle.fb_types.specs.SchemaText.{SchemaFault, read_schema}
+use Rattle.ardea.proofs.LoadLemmas.{rows_refused, schema_read, schema_refused}
 use Rattle.ardea.proofs.reading.schema_of.Goals as goal
 
-pub returns-in-None-clause-ok : goal.returns-in-None-clause-ok
-returns-in-None-clause-ok c =
-    loads_schema c.args.text.now c.in-Ok.schema c.in-Ok.ensures.ok (ap not_loadable (sym c.columns.ensures.value) ∙ sym c.in-None.ensures)
+pub returns-in-Ok-parse_schema-clause-stop : goal.returns-in-Ok-parse_schema-clause-stop
+returns-in-Ok-parse_schema-clause-stop c =
+    let read : read_schema c.args.load.now.schema ≡ Ok c.in-Ok-parse_schema.field-0 =
+    subst (λ (t : List ℕ). read_schema t ≡ Ok c.in-Ok-parse_schema.field-0) (c.in-Ok.ensures.cases.0 ∙ c.bytes.ensures) c.in-Ok-parse_schema.ensures.ok in
+    rw c.over.ensures (rows_refused c.args.load.now c.in-Ok-parse_schema.field-0 read (omega arith))
 
-pub returns-in-None-clause-one : goal.returns-in-None-clause-one
-returns-in-None-clause-one c =
-    one_int c.in-Ok.schema c.columns.ensures.valid (ap not_loadable (sym c.columns.ensures.value) ∙ sym c.in-None.ensures)
-
-pub returns-in-Some-clause-stop : goal.returns-in-Some-clause-stop
-returns-in-Some-clause-stop c =
-    rw c.bad_schema.ensures
-    (λ input there.
-    refused_column c.args.text.now input there c.in-Ok.schema c.in-Some.column c.in-Ok.ensures.ok
-    (ap not_loadable (sym c.columns.ensures.value) ∙ sym c.in-Some.ensures))
+pub returns-in-Ok-2-clause-ok : goal.returns-in-Ok-2-clause-ok
+returns-in-Ok-2-clause-ok c =
+    let read : read_schema c.args.load.now.schema ≡ Ok c.in-Ok-parse_schema.field-0 =
+    subst (λ (t : List ℕ). read_schema t ≡ Ok c.in-Ok-parse_schema.field-0) (c.in-Ok.ensures.cases.0 ∙ c.bytes.ensures) c.in-Ok-parse_schema.ensures.ok in
+    schema_read c.args.load.now c.in-Ok-parse_schema.field-0 read (omega arith)
 
 pub returns-in-Err-Bad-clause-stop : goal.returns-in-Err-Bad-clause-stop
 returns-in-Err-Bad-clause-stop c =
-    rw c.bad_schema-in-Err-Bad.ensures
-    (λ input there.
-    refused_schema c.args.text.now input there (record { column = c.in-Err-Bad.column; kind = c.in-Err-Bad.kind })
-    (rw c.in-Err-Bad.field-0-is at c.in-Err-Bad.ensures.bad))
+    let fault : SchemaFault = record { column = c.in-Err-Bad.column; kind = c.in-Err-Bad.kind } in
+    schema_refused c.args.load.now fault
+    (subst (λ (t : List ℕ). read_schema t ≡ Err fault) (c.in-Ok.ensures.cases.0 ∙ c.bytes.ensures) (rw c.in-Err-Bad.field-0-is at c.in-Err-Bad.ensures.bad))

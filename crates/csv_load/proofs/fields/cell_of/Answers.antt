@@ -1,5 +1,5 @@
 -- Which of the two definitions of a cell holds is told by the test of the type's ends.
-use Rattle.std.proofs.Common.{◌≡◌, false, inl, inr, sym, true, rules, refl}
+use Rattle.std.proofs.Common.{◌≡◌, false, sym, true, rules, refl}
 use Rattle.std.specs.Prelude.{is_some}
 use Rattle.std.proofs.lemmas.Int.{to_z-of_z}
 use mir.Val.{SFits}
@@ -19,6 +19,11 @@ returns-then-is_none-clause-fault c =
     let e : is_some (ends_of c.args.ty) ≡ false = search rules in
     rw (field_cell-word c.args.ty c.args.bytes.now e) c.word_of.ensures.fault
 
+pub returns-in-Null-clause-cell : goal.returns-in-Null-clause-cell
+returns-in-Null-clause-cell c =
+    let e : is_some (ends_of c.args.ty) ≡ true = search rules in
+    rw (field_cell-whole c.args.ty c.args.bytes.now e, ← c.in-Null.ensures) refl
+
 pub returns-in-Value-clause-cell : goal.returns-in-Value-clause-cell
 returns-in-Value-clause-cell c =
     let e : is_some (ends_of c.args.ty) ≡ true = search rules in
@@ -36,5 +41,5 @@ returns-clause-fault c =
     rw (field_cell-whole c.args.ty c.args.bytes.now e, ← c.parse_whole.ensures)
     (elim c.match-parse_whole.branch [
       | in-OutOfRange w ↦ rw (w.in-OutOfRange.is, w.kind-is) refl
-      | in-NotWhole w ↦ elim w.in-NotWhole.is [ inl word ↦ rw (word, w.kind-is) refl | inr blank ↦ rw (blank, w.kind-is) refl ]
+      | in-NotWhole w ↦ rw (w.in-NotWhole.is, w.kind-is) refl
     ])

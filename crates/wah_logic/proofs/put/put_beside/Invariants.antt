@@ -1,4 +1,5 @@
 use Rattle.std.proofs.Common.{◌≡◌, ◌+◌, ◌*◌, ◌%◌, ◌≤◌, ◌++◌, length, take, drop, replicate}
+use Rattle.wah_words.specs.Limits.{most_bits}
 use Rattle.wah_words.specs.Spelling.{words_of}
 use Rattle.wah_logic.specs.Logic.{each_place}
 use Rattle.wah_logic.specs.Rest.{looks}
@@ -10,7 +11,7 @@ invariant-loop-ahead g l = record {
   left : drop (31 * l.ahead) l.y.values ≡ drop (31 * l.groups) l.fn.y.values;
   enough : 31 * l.ahead ≤ length l.y.values;
   aligned : length l.out.values % 31 ≡ 0;
-  limit : length l.out.values + 31 * l.ahead ≤ 4194304;
+  limit : length l.out.values + 31 * l.ahead ≤ most_bits;
   words : words_of l.out.values + looks l.y ≤ words_of l.fn.out.values + looks l.fn.y;
   spare : l.fn.out.spare + looks l.y ≤ l.out.spare + looks l.fn.y;
   fewer : looks l.y ≤ looks l.fn.y;

@@ -1,4 +1,5 @@
 use Rattle.std.proofs.Common.{◌≡◌, ◌+◌, ◌%◌, ◌^◌, ◌<◌, ◌≤◌, ◌++◌, length}
+use Rattle.wah_words.specs.Limits.{most_bits}
 use Rattle.wah_words.specs.Places.{places}
 use Rattle.wah_words.specs.Spelling.{words_of}
 use Rattle.wah_logic.specs.Rest.{Puts, looks}
@@ -10,7 +11,7 @@ invariant-loop-other g l = record {
   group : l.word < 2 ^ 31;
   same : 31 + length l.x.values ≡ length l.y.values;
   aligned : length l.out.values % 31 ≡ 0;
-  limit : length l.out.values + length l.y.values ≤ 4194304;
+  limit : length l.out.values + length l.y.values ≤ most_bits;
   words : words_of l.out.values + looks l.x + looks l.y ≤ words_of l.fn.out.values + looks l.fn.x + looks l.fn.y;
   spare : l.fn.out.spare + looks l.x + looks l.y ≤ l.out.spare + looks l.fn.x + looks l.fn.y;
   fewer : looks l.x + looks l.y ≤ looks l.fn.x + looks l.fn.y;

@@ -1,40 +1,27 @@
-use Rattle.std.proofs.Common.{false, sym, ◌∙◌, arith}
-use Rattle.std.proofs.lemmas.List.{length-replicate}
-use Rattle.wah_words.proofs.SpellingLemmas.{words_of_le}
-use Rattle.wah_logic.specs.Logic.{or, union, groups_and_rest}
-use Rattle.wah_logic.proofs.JoinLemmas.{length-each}
-use Rattle.wah_logic.proofs.UnionLemmas.{each_zeros_left, length-union, union_next, union_ends, at_item, length-item, words_few, more_steps}
+use Rattle.std.proofs.Common.{◌≡◌, ◌+◌, [], ◌∷◌, length, map, sym, ap, ◌∙◌, arith, subst, IfOk}
+use Rattle.wah_words.specs.Spelling.{words_of}
+use Rattle.wah_logic.specs.Logic.{union, groups_and_rest, words_in}
+use Rattle.wah_logic.proofs.UnionLemmas.{no_item, one_item, one_words, one_union, some_digits, so_many_times, words_few, copy_steps, twice_each}
 use Rattle.wah_logic.proofs.unions.or_many.Goals as goal
 
-pub loop-vector-init : goal.loop-vector-init
-loop-vector-init g c =
-    let len = c.args.len in
-    record {
-      values = rw c.in_ok-all.ensures (each_zeros_left len (union len c.args.list.now) (length-union len c.args.list.now c.requires.same));
-      same = rw c.in_ok-all.ensures (length-replicate len false);
-      steps = omega arith;
-    }
+pub returns-in-empty-clause-values : goal.returns-in-empty-clause-values
+returns-in-empty-clause-values g c =
+    subst (λ u. IfOk c.zeros.result (λ v. v ≡ u)) (no_item g.T.HasRows.row_bits c.args.len c.args.list.now c.in-empty.len_below) c.zeros.ensures
 
-pub overflow_add-words : goal.overflow_add-words
-overflow_add-words g c = omega (arith, words_of_le c.loop-vector.all, words_of_le c.vector-item.result, c.words.ensures.words, c.words.ensures.limit, c.words-in-loop-vector.ensures.words, c.words-in-loop-vector.ensures.limit)
+pub returns-in-len1-clause-values : goal.returns-in-len1-clause-values
+returns-in-len1-clause-values g c =
+    let e = one_item c.args.list.now c.vector-item.result (omega arith) c.vector-item.is in
+    subst (λ u. IfOk c.copy.result (λ v. v ≡ u)) (c.rows.ensures ∙ (one_union g.T.HasRows.row_bits c.args.len c.args.list.now c.vector-item.result e c.requires.same).1) c.copy.ensures.copied
 
-pub loop-vector-preserved : goal.loop-vector-preserved
-loop-vector-preserved g c =
-    let len = c.args.len in
-    let i = c.loop-vector.invariant in
-    let k = c.loop-vector.vector-index in
-    let v = c.vector-item.result in
-    let vs = c.args.list.now in
-    let all = c.loop-vector.all in
-    let at = at_item k v vs c.loop-vector-test.true c.vector-item.is in
-    let long = length-item len k v vs c.requires.same at in
-    record {
-      values = rw c.combine-all.ensures.values (union_next len k all v (union len vs) vs at c.requires.same i.same i.values);
-      same = rw c.combine-all.ensures.values (length-each or all v (i.same ∙ sym long) ∙ i.same);
-      steps = more_steps (groups_and_rest len) k c.loop-vector.steps c.combine-all.new.steps c.args.steps.now i.steps (omega (arith, c.combine-all.ensures.steps, words_few len all i.same, words_few len v long));
-    }
+pub returns-in-len1-clause-digits : goal.returns-in-len1-clause-digits
+returns-in-len1-clause-digits g c = λ d h.
+    let e = one_item c.args.list.now c.vector-item.result (omega arith) c.vector-item.is in
+    let all = copy_steps c.copy.result c.args.steps.now c.copy.new.steps (words_of c.rows.result.now) c.copy.ensures.steps c.copy.ensures.no_steps in
+    so_many_times 1 d (words_in (map g.T.HasRows.row_bits c.args.list.now)) c.args.steps.now c.copy.new.steps (some_digits d (length c.args.list.now) (omega arith) h) (omega (arith, all, one_words g.T.HasRows.row_bits c.args.list.now c.vector-item.result e, ap words_of c.rows.ensures))
 
-pub returns-clause-values : goal.returns-clause-values
-returns-clause-values g c =
-    let i = c.loop-vector.invariant in
-    union_ends c.args.len c.loop-vector.vector-index c.loop-vector.all (union c.args.len c.args.list.now) c.args.list.now c.loop-vector-test.false i.same i.values
+pub returns-in-len1-clause-steps : goal.returns-in-len1-clause-steps
+returns-in-len1-clause-steps g c =
+    let e = one_item c.args.list.now c.vector-item.result (omega arith) c.vector-item.is in
+    let all = copy_steps c.copy.result c.args.steps.now c.copy.new.steps (words_of c.rows.result.now) c.copy.ensures.steps c.copy.ensures.no_steps in
+    let long = (one_union g.T.HasRows.row_bits c.args.len c.args.list.now c.vector-item.result e c.requires.same).0 in
+    twice_each (groups_and_rest c.args.len) (length c.args.list.now) c.args.steps.now c.copy.new.steps (omega arith) (omega (arith, all, words_few c.args.len (g.T.HasRows.row_bits c.vector-item.result) long, ap words_of c.rows.ensures))

@@ -1,11 +1,16 @@
-use Rattle.std.proofs.Common.{subst}
-use Rattle.std.specs.Str.{IsUtf8}
-use Rattle.where_grammar.proofs.Boundaries.{behind_blanks, behind_word}
+use Rattle.std.proofs.Common.{◌≡◌, List, ℕ, sym, ◌∙◌}
+use Rattle.std.specs.Prelude.{Option, Some, None, IfSome}
+use Rattle.std.specs.Option.{option_map}
+use Rattle.where_grammar.specs.Language.{FollowsWhere, after_where}
+use Rattle.where_grammar.proofs.WhereLaws.{after_where-again, after_where-told}
 use Rattle.where_grammar.proofs.parsing.after_where.Goals as goal
 
-pub split_at-requires : goal.split_at-requires
-split_at-requires c = rw (c.blanks_len.ensures.value, c.as_bytes.ensures.value) (behind_blanks c.args.text.now c.utf8.text)
+found_follows : {A : Type 0} (now : A → List ℕ) (text : List ℕ) (o : Option A) → option_map now o ≡ after_where text → IfSome o (λ rest. FollowsWhere text (now rest))
+found_follows now text None e = tt
+found_follows now text (Some rest) e = after_where-told text (now rest) (sym e)
 
-pub split_at-requires-2 : goal.split_at-requires-2
-split_at-requires-2 c =
-    rw (c.word_len.ensures.value, c.as_bytes-2.ensures.value) (behind_word c.split_at.result.1.now (subst IsUtf8 c.as_bytes-2.ensures.value c.as_bytes-2.ensures.utf8))
+pub returns-clause-found : goal.returns-clause-found
+returns-clause-found c = found_follows (λ rest. rest.now) c.args.text.now c.behind_where.result c.behind_where.ensures
+
+pub returns-clause-only : goal.returns-clause-only
+returns-clause-only c = λ rest is. c.behind_where.ensures ∙ after_where-again c.args.text.now rest is

@@ -19,7 +19,7 @@ invariant_of-self-2 c =
 pub returns-clause-ok : goal.returns-clause-ok
 returns-clause-ok c =
     let put = puts_entry (map entry_of c.keep_file.new.files.items) (map entry_of c.self.inside.files.items) c.args.name.now c.args.bytes.now c.in-Ok.ensures.ok in
-    on_ok c.match-fault-2.result (rw (← c.self.view_is) put)
+    on_ok c.match-count.result (rw (← c.self.view_is) put)
 
 pub returns-clause-failed : goal.returns-clause-failed
 returns-clause-failed c =

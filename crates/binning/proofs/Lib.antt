@@ -1,0 +1,12 @@
+pub mod MembersLemmas
+pub mod FetchedLemmas
+pub mod TestLemmas
+pub mod SpanLemmas
+pub mod DigitLemmas
+pub mod MaskLemmas
+pub mod KeyLemmas
+pub mod BoundLemmas
+pub mod GroupLemmas
+pub mod OrderLemmas
+pub mod GatherLemmas
+pub mod ColumnLemmas

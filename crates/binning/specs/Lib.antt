@@ -1,0 +1,10 @@
+pub mod Spans
+pub mod Joined
+pub mod Against
+pub mod Keys
+pub mod Gathered
+pub mod Groups
+pub mod Bins
+pub mod BinFor
+pub mod Members
+pub mod Encodings

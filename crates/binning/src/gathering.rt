@@ -1,0 +1,258 @@
+//! The bins of a column, gathered block by block.
+ghost use Rattle.std.specs.Prelude.{◌≡◌, ℤ, ◌+◌, ◌<◌, ◌≤◌, List, Option, Some, None, [], ◌∷◌, ◌++◌, if◌then◌else◌, length, map, IfOk, IfSome, OnOk};
+ghost use Rattle.std.specs.List.{AllByRecursion, range_with_len};
+ghost use Rattle.wah_words.specs.Spelling.{words_of};
+ghost use Rattle.binning.specs.Spans.{IsInRange};
+ghost use Rattle.binning.specs.Bins.{cells, bins_of};
+ghost use Rattle.binning.specs.Gathered.{Gathered, Knows, AreDistinct, keys_in, place_of, groups_after, held};
+ghost use Rattle.binning.specs.Groups.{rows_at};
+ghost use Rattle.binning.specs.BinFor.{bin_for};
+ghost use Rattle.binning.specs.declared.rules.Keying.{Keying};
+
+use crate::groups::{Group, KeyPlace, NO_PLACE, by_key, place, rows_by_place};
+use crate::masks::append_mask;
+use crate::rules::Rule;
+use sqlite_items::Items;
+use std::alloc::{AllocError, Global};
+use std::collections::HashMap;
+use std::marker::Model;
+use std::sync::ledger::Ledger;
+use steps::Steps;
+use wah_iter::from_rows;
+use wah_words::Wah;
+
+/// The values with one key: the least and the greatest of them, and their rows.
+#[derive(Drop)]
+pub struct Bin {
+    pub least: i128,
+    pub greatest: i128,
+    pub rows: Wah,
+}
+
+/// The rows of a column so far, put into groups by a rule. Contracts see the rule, the groups, and the place of each
+/// row's group.
+#[derive(Drop)]
+pub struct Gatherer {
+    alloc: Global,
+    rule: Rule,
+    known: HashMap<i128, u32>,
+    groups: Vec<Group>,
+    places: Vec<u32>,
+}
+
+impl Model for Gatherer {
+    ghost use Rattle.std.specs.Prelude.{◌≤◌, length};
+    ghost use Rattle.binning.specs.Gathered.{Held, Knows, keys_in, AreDistinct};
+
+    ghost Value = { Held };
+
+    ghost view = { λ g. record { rule = g.rule; groups = g.groups.items; places = g.places.items } };
+
+    ghost invariant = { λ g. Knows g.known (keys_in g.groups.items) × AreDistinct (keys_in g.groups.items) × (length g.groups.items ≤ length g.places.items) × (length g.places.items ≤ 4194304) };
+}
+
+/// The value of a row, where there is one.
+#[inline(always)]
+fn cell(is_there: bool, v: i128) -> Option<i128>
+    ensures { result ≡ (if is_there then Some v else None) }
+{
+    if is_there { Some(v) } else { None }
+}
+
+/// Adds a row, and tells its place. The group at `last` is looked at first.
+#[inline(always)]
+fn put_row(
+    known: &mut HashMap<i128, u32>,
+    groups: &mut Vec<Group>,
+    places: &mut Vec<u32>,
+    rule: &Rule,
+    last: u32,
+    cell: Option<i128>,
+) -> Result<u32, AllocError>
+    requires within { IfSome cell IsInRange }
+    requires knows { Knows known.old (keys_in groups.old.items) }
+    requires distinct { AreDistinct (keys_in groups.old.items) }
+    requires few { length groups.old.items < 4194304 }
+    ensures groups { OnOk result (groups.new.items ≡ groups_after rule.now groups.old.items cell) }
+    ensures places { OnOk result (places.new.items ≡ places.old.items ++ place_of rule.now (keys_in groups.old.items) cell ∷ []) }
+    ensures knows { OnOk result (Knows known.new (keys_in groups.new.items)) }
+{
+    let Some(v) = cell else {
+        places.push(NO_PLACE)?;
+        return Ok(NO_PLACE);
+    };
+    let at_place = place(known, groups, last as usize, rule.key(v), v)?;
+    places.push(at_place)?;
+    Ok(at_place)
+}
+
+/// Adds rows, of which some are there.
+fn put_rows(
+    known: &mut HashMap<i128, u32>,
+    groups: &mut Vec<Group>,
+    places: &mut Vec<u32>,
+    rule: &Rule,
+    is_there: &[bool],
+    values: &[i128],
+) -> Result<(), AllocError>
+    requires same { length is_there.now ≡ length values.now }
+    requires within { AllByRecursion IsInRange values.now }
+    requires knows { Knows known.old (keys_in groups.old.items) }
+    requires distinct { AreDistinct (keys_in groups.old.items) }
+    requires few { length groups.old.items ≤ length places.old.items }
+    requires room { length places.old.items + length values.now ≤ 4194304 }
+    ensures knows { OnOk result (Knows known.new (keys_in groups.new.items)) }
+    ensures distinct { OnOk result (AreDistinct (keys_in groups.new.items)) }
+    ensures few { OnOk result (length groups.new.items ≤ length places.new.items) }
+    ensures rows { OnOk result (length places.new.items ≡ length places.old.items + length values.now) }
+    ensures gathered { OnOk result ((column : List (Option ℤ)) → Gathered (held rule.now groups.old.items places.old.items) column → Gathered (held rule.now groups.new.items places.new.items) (column ++ cells is_there.now values.now)) }
+{
+    let mut last = NO_PLACE;
+    for (row, v) in values.iter().enumerate() {
+        let cell = cell(is_there[row], *v);
+        last = put_row(known, groups, places, rule, last, cell)?;
+    }
+    Ok(())
+}
+
+impl Gatherer {
+    /// No row yet.
+    pub fn make(alloc: Global, rule: Rule) -> Gatherer
+        ensures rule { result.rule ≡ rule }
+        ensures rows { length result.places ≡ 0 }
+        ensures gathered { Gathered result [] }
+    {
+        Gatherer {
+            alloc,
+            rule,
+            known: HashMap::new(alloc),
+            groups: Vec::new(alloc),
+            places: Vec::new(alloc),
+        }
+    }
+
+    /// Further rows: their values, between -2^63 and 2^64 - 1, and at which of them the column has one. There may be
+    /// 4,194,304 rows in all. A call that is refused hands nothing back.
+    pub fn add<L: Ledger>(
+        self,
+        values: &[i128],
+        present: &Wah,
+        steps: &mut Steps<L>,
+    ) -> Result<Gatherer, AllocError>
+        requires same { length values.now ≡ length present.now }
+        requires within { AllByRecursion IsInRange values.now }
+        requires room { length self.places + length values.now ≤ 4194304 }
+        ensures rule { IfOk result (λ all. all.rule ≡ self.rule) }
+        ensures rows { IfOk result (λ all. length all.places ≡ length self.places + length values.now) }
+        ensures gathered { IfOk result (λ all. (column : List (Option ℤ)) → Gathered self column → Gathered all (column ++ cells present.now values.now)) }
+        ensures steps { steps.new ≤ steps.old + words_of present.now }
+    {
+        let Gatherer {
+            alloc,
+            rule,
+            mut known,
+            mut groups,
+            mut places,
+        } = self;
+        let mut is_there = Vec::with_capacity(alloc, values.len())?;
+        append_mask(&mut is_there, present, steps)?;
+        let is_there = is_there.as_slice();
+        put_rows(
+            &mut known,
+            &mut groups,
+            &mut places,
+            &rule,
+            is_there,
+            values,
+        )?;
+        Ok(Gatherer {
+            alloc,
+            rule,
+            known,
+            groups,
+            places,
+        })
+    }
+
+    /// The bins of all rows: one for each key, in rising order of key.
+    pub fn finish(self) -> Result<Vec<Bin>, AllocError>
+        ensures { IfOk result (λ bins. (column : List (Option ℤ)) → Gathered self column → bins.items ≡ bins_of self.rule column) }
+    {
+        let bins = bins_of_groups(self.alloc, &self.groups, &self.places)?;
+        Ok(bins)
+    }
+}
+
+/// The bin of a group, whose rows are these.
+fn bin_at(
+    alloc: Global,
+    groups: &[Group],
+    rows: &[Items<u32>],
+    places: &[u32],
+    place: u32,
+) -> Result<Bin, AllocError>
+    requires within { place < length groups.now }
+    requires rows { rows.now ≡ map (rows_at places.now) (range_with_len 0 (length groups.now)) }
+    requires limit { length places.now ≤ 4194304 }
+    ensures { IfOk result (λ bin. bin ≡ bin_for groups.now places.now place) }
+{
+    let group = groups[place as usize];
+    let at_place = rows[place as usize].as_slice();
+    Ok(Bin {
+        least: group.least,
+        greatest: group.greatest,
+        rows: from_rows(alloc, at_place, places.len() as u32)?,
+    })
+}
+
+/// The bins of the groups, in the order of the pairs.
+fn bins_in_order(
+    alloc: Global,
+    order: &[KeyPlace],
+    groups: &[Group],
+    rows: &[Items<u32>],
+    places: &[u32],
+) -> Result<Vec<Bin>, AllocError>
+    requires within { AllByRecursion (λ pair. pair.place < length groups.now) order.now }
+    requires rows { rows.now ≡ map (rows_at places.now) (range_with_len 0 (length groups.now)) }
+    requires limit { length places.now ≤ 4194304 }
+    ensures { IfOk result (λ bins. bins.items ≡ map (λ pair. bin_for groups.now places.now pair.place) order.now) }
+{
+    let mut bins = Vec::with_capacity(alloc, order.len())?;
+    for pair in order {
+        bins.push(bin_at(alloc, groups, rows, places, pair.place)?)?;
+    }
+    Ok(bins)
+}
+
+/// The bins of groups, where these are the rows' places.
+fn bins_of_groups(alloc: Global, groups: &[Group], places: &[u32]) -> Result<Vec<Bin>, AllocError>
+    requires few { length groups.now ≤ 4194304 }
+    requires limit { length places.now ≤ 4194304 }
+    ensures { IfOk result (λ bins. (rule : Keying) (column : List (Option ℤ)) → Gathered (held rule groups.now places.now) column → bins.items ≡ bins_of rule column) }
+{
+    let rows = rows_by_place(alloc, places, groups.len())?;
+    let order = by_key(alloc, groups)?;
+    let bins = bins_in_order(alloc, &order, groups, &rows, places)?;
+    Ok(bins)
+}
+
+/// The bins of a column, whose values lie between -2^63 and 2^64 - 1 and of which a row is there where the mask is true.
+pub fn bins<L: Ledger>(
+    alloc: Global,
+    rule: &Rule,
+    values: &[i128],
+    mask: &Wah,
+    steps: &mut Steps<L>,
+) -> Result<Vec<Bin>, AllocError>
+    requires same { length values.now ≡ length mask.now }
+    requires within { AllByRecursion IsInRange values.now }
+    ensures bins { IfOk result (λ bins. bins.items ≡ bins_of rule.now (cells mask.now values.now)) }
+    ensures steps { steps.new ≤ steps.old + words_of mask.now }
+{
+    let _rows = mask.len();
+    let gatherer = Gatherer::make(alloc, rule.copy(alloc)?);
+    let all = gatherer.add(values, mask, steps)?;
+    let bins = all.finish()?;
+    Ok(bins)
+}

@@ -1,0 +1,29 @@
+//! Bins of a column: which numbers a condition asks for, which bin a value falls into, the bins of the values, and what
+//! an encoding makes of bins.
+//!
+//! A rule gives each value a key; the values with one key make a bin. Keys rise with the values, so that the bins stand
+//! in order of their values, too.
+#![tactic(auto)]
+
+mod answers;
+mod bin_rows;
+mod bounds;
+mod digits;
+mod encodings;
+mod gathering;
+mod groups;
+mod laws;
+mod masks;
+mod rules;
+mod span_lists;
+
+pub use answers::{Three, against};
+pub use encodings::{EncFault, Encoding};
+pub use gathering::{Bin, Gatherer, bins};
+pub use groups::Group;
+pub use laws::{bins_of_a_column, rising_numbers};
+pub use rules::{Keying, Rule, make_rule};
+pub use span_lists::{Span, Spans};
+
+#[cfg(test)]
+mod tests;

@@ -1,0 +1,16 @@
+use Rattle.std.proofs.Common.{refl}
+use Rattle.command_words.specs.Places.{are_in_order, is_value}
+use Rattle.command_words.specs.Words.{ardea_by, gen_by, ibis_by, is_path, number_of, request_of, session_by, task_count, task_of}
+use Rattle.command_words.proofs.laws.the_words_of_others.Goals as goal
+
+pub returns : goal.returns
+unfolding request_of ardea_by ibis_by session_by gen_by task_of task_count number_of is_path are_in_order is_value
+returns c = record {
+  session = refl;
+  longer = refl;
+  made = refl;
+  no_rows = refl;
+  many = refl;
+  none = refl;
+  other = refl;
+}

@@ -1,0 +1,5 @@
+pub mod PrintLemmas
+pub mod Refusals
+pub mod RunLemmas
+pub mod LoadRunLemmas
+pub mod QuestionLemmas

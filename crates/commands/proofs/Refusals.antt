@@ -1,0 +1,174 @@
+-- What a command is refused with is a refusal: neither a fault nor `Done`.
+use Rattle.std.proofs.Common.{◌≡◌, ◌≢◌, ◌+◌, ℕ, Bool, true, false, List, length, nat_le, Option, Some, None, Result, Ok, Err, refl, sym, ap, subst, ◌∙◌, if◌then◌else◌, is_some}
+use Rattle.fb_outside.specs.Files.{Files}
+use Rattle.fb_types.specs.declared.cells.Cell.{Cell}
+use Rattle.fb_types.specs.declared.schemas.Column.{Column}
+use Rattle.fb_types.specs.SchemaText.{SchemaFault, read_schema}
+use Rattle.fb_types.specs.Schemas.{place_of}
+use Rattle.fb_types.specs.Table.{Table}
+use Rattle.fb_types.specs.Types.{ends_of}
+use Rattle.csv_load.specs.Loaded.{Fault, loaded}
+use Rattle.command_words.specs.declared.Load.{Load}
+use Rattle.where_grammar.specs.declared.clause.QueryKind.{QueryKind}
+use Rattle.where_grammar.specs.declared.clause.QueryKind.TheVariants.{WrongType}
+use Rattle.part_meta.specs.declared.catalog.Catalog.{Catalog}
+use Rattle.dataset.specs.Appended.{Refusal, SchemaDiffers, TooManyNumbers, TooManyParts, refusal}
+use Rattle.dataset.specs.Found.{Absent, Broken, Found, There}
+use Rattle.dataset.specs.declared.content.Dataset.{Dataset}
+use Rattle.dataset.specs.declared.fault.DamageKind.TheVariants.{Length}
+use Rattle.statuses.specs.declared.LimitKind.TheVariants as limit
+use Rattle.statuses.specs.declared.Status.{Status}
+use Rattle.statuses.specs.declared.Status.TheVariants.{BadQuery, Damaged, Done}
+use Rattle.statuses.specs.declared.Status.TheVariants as status
+use Rattle.statuses.specs.Outcome.{◌>>=◌}
+use Rattle.ardea.specs.Load.{Bytes, CutShort, Gives, NoFile, Reading, catalog_or_refusal, input_or_refusal, load_result, load_schema, load_table, most_input_bytes, most_rows, reading_or_refusal, records_or_refusal, rows_or_refusal, schema_or_refusal, text_or_refusal, unless_refused, within_limit}
+use Rattle.ibis.specs.Count.{CountComes, CountsBy, asked_of, dataset_or_refusal}
+use Rattle.ibis.specs.Listing.{ListComes, list_result, listing}
+use Rattle.ibis.specs.declared.query.Below.{Below}
+use Rattle.ibis.specs.Query.{column_in, query_or_refusal, read_query, resolved, typed_or_refusal}
+use Rattle.commands.specs.Reply.{is_fault}
+
+pub record IsRefusal (status : Status) : Type 0 where
+  pub no_fault : is_fault status ≡ false
+  pub not_done : status ≢ Done
+
+-- a result that fails with a refusal, if it fails
+FailsSo : {A : Type 0} → Result A Status → Type 0
+FailsSo (Ok a) = Unit {0}
+FailsSo (Err status) = IsRefusal status
+
+step : {A B : Type 0} (x : Result A Status) (f : A → Result B Status) → FailsSo x → ((a : A) → FailsSo (f a)) → FailsSo (x >>= f)
+unfolding FailsSo
+step (Ok a) f h k = k a
+step (Err status) f h k = h
+
+good : {A : Type 0} (a : A) → FailsSo {A = A} (Ok a)
+unfolding FailsSo
+good a = tt
+
+at_refusal : (A : Type 0) (status : Status) → FailsSo {A = A} (Err status) → IsRefusal status
+unfolding FailsSo
+at_refusal A status h = h
+
+by_result : {A : Type 0} (r : Result A Status) (status : Status) → FailsSo r → r ≡ Err status → IsRefusal status
+by_result {A} r status h e = at_refusal A status (subst (λ (x : Result A Status). FailsSo x) e h)
+
+-- ---- loads
+
+schema_so : (r : Result (List Column) SchemaFault) → FailsSo (schema_or_refusal r)
+unfolding FailsSo
+schema_so (Ok schema) = tt
+schema_so (Err fault) = record { no_fault = refl; not_done = λ e. cc }
+
+limit_so : {A : Type 0} (given : A) (why : Status) (b : Bool) → IsRefusal why → FailsSo (if b then Ok given else Err why)
+unfolding FailsSo
+limit_so given why true h = tt
+limit_so given why false h = h
+
+load_schema_so : (load : Load) → FailsSo (load_schema load)
+unfolding load_schema
+load_schema_so load =
+    step (schema_or_refusal (read_schema load.schema)) _ (schema_so (read_schema load.schema))
+    (λ schema. limit_so schema (status.Limit limit.Rows load.per_part most_rows) (nat_le load.per_part most_rows) (record { no_fault = refl; not_done = λ e. cc }))
+
+given_so : (size : ℕ) (given : Result (List ℕ) Status) (b : Bool) → FailsSo given
+    → FailsSo (if b then given else Err (status.Limit limit.Input size most_input_bytes))
+unfolding FailsSo
+given_so size given true h = h
+given_so size given false h = record { no_fault = refl; not_done = λ e. cc }
+
+reading_so : (name : List ℕ) (reading : Reading) → FailsSo (reading_or_refusal name reading)
+unfolding FailsSo
+reading_so name NoFile = record { no_fault = refl; not_done = λ e. cc }
+reading_so name (Bytes bytes) = given_so (length bytes) (Ok bytes) (nat_le (length bytes) most_input_bytes) tt
+reading_so name (CutShort told) =
+    given_so told (Err (status.Damaged name Length 0 0)) (nat_le told most_input_bytes) (record { no_fault = refl; not_done = λ e. cc })
+
+text_so : (file : Option (List ℕ)) (input : List ℕ) (readings : List ℕ → Reading) → FailsSo (text_or_refusal file input readings)
+text_so None input readings =
+    limit_so input (status.Limit limit.Input (most_input_bytes + 1) most_input_bytes) (nat_le (length input) most_input_bytes) (record { no_fault = refl; not_done = λ e. cc })
+text_so (Some name) input readings = reading_so name (readings name)
+
+records_so : (r : Result (List (List Cell)) Fault) → FailsSo (records_or_refusal r)
+unfolding FailsSo
+records_so (Ok records) = tt
+records_so (Err fault) = record { no_fault = refl; not_done = λ e. cc }
+
+table_so : (load : Load) (input : List ℕ) (readings : List ℕ → Reading) → FailsSo (load_table load input readings)
+unfolding load_table
+table_so load input readings =
+    step (load_schema load) _ (load_schema_so load)
+    (λ schema. step (text_or_refusal load.file input readings) _ (text_so load.file input readings)
+    (λ text. step (records_or_refusal (loaded text schema load.skip)) _ (records_so (loaded text schema load.skip))
+    (λ records. good {A = Table} (record { schema = schema; records = records }))))
+
+catalog_so : (schema : List Column) (found : Found) → FailsSo (catalog_or_refusal schema found)
+unfolding FailsSo
+catalog_so schema Absent = tt
+catalog_so schema (There dataset) = tt
+catalog_so schema (Broken damage) = record { no_fault = refl; not_done = λ e. cc }
+
+taken_so : (table : Table) (why : Option Refusal) → FailsSo (unless_refused table why)
+unfolding FailsSo
+taken_so table None = tt
+taken_so table (Some (SchemaDiffers column)) = record { no_fault = refl; not_done = λ e. cc }
+taken_so table (Some (TooManyParts number)) = record { no_fault = refl; not_done = λ e. cc }
+taken_so table (Some (TooManyNumbers number)) = record { no_fault = refl; not_done = λ e. cc }
+
+load_so : (load : Load) (input : List ℕ) (readings : List ℕ → Reading) (found : Found) → FailsSo (load_result load input readings found)
+unfolding load_result
+load_so load input readings found =
+    step (load_table load input readings) _ (table_so load input readings)
+    (λ table. step (catalog_or_refusal table.schema found) _ (catalog_so table.schema found)
+    (λ catalog. taken_so table (refusal catalog table.schema load.per_part (length table.records))))
+
+pub IsRefusal-load : (load : Load) (left : Option (List ℕ)) (files : Option Files) (status : Status) → Gives load left files (Err status)
+    → IsRefusal status
+IsRefusal-load load left files status g =
+    by_result (load_result load g.situation.input g.situation.readings g.situation.found) status
+    (load_so load g.situation.input g.situation.readings g.situation.found) g.is
+
+-- ---- questions
+
+dataset_so : (dir : List ℕ) (found : Found) → FailsSo (dataset_or_refusal dir found)
+unfolding FailsSo
+dataset_so dir Absent = record { no_fault = refl; not_done = λ e. cc }
+dataset_so dir (There dataset) = tt
+dataset_so dir (Broken damage) = record { no_fault = refl; not_done = λ e. cc }
+
+query_so : (r : Result Below QueryKind) → FailsSo (query_or_refusal r)
+unfolding FailsSo
+query_so (Ok below) = tt
+query_so (Err kind) = record { no_fault = refl; not_done = λ e. cc }
+
+typed_so : (below : Below) (column : Option Column) → FailsSo (typed_or_refusal below column)
+unfolding FailsSo
+typed_so below None = record { no_fault = refl; not_done = λ e. cc }
+typed_so below (Some column) =
+    limit_so below (BadQuery (WrongType below.name)) (is_some (ends_of column.ty)) (record { no_fault = refl; not_done = λ e. cc })
+
+asked_so : (dir query : List ℕ) (found : Found) → FailsSo (asked_of dir query found)
+unfolding asked_of
+asked_so dir query found =
+    step (query_or_refusal (read_query query)) _ (query_so (read_query query))
+    (λ below. step (dataset_or_refusal dir found) _ (dataset_so dir found)
+    (λ dataset. typed_so below (column_in dataset.schema (place_of dataset.schema below.name))))
+
+count_by : (files : Option Files) (found : Found) (r : Result Below Status) (status : Status) → FailsSo r → CountsBy files found r (Err status)
+    → IsRefusal status
+count_by files found (Err why) status h counts =
+    let is : why ≡ status = let e : ◌≡◌ {A = Result ℕ Status} (Err status) (Err why) = counts in cc in
+    subst IsRefusal is (at_refusal Below why h)
+count_by files found (Ok below) status h counts =
+    record { no_fault = ap is_fault counts.1; not_done = λ e. let bad : Damaged counts.0.file counts.0.kind counts.0.want counts.0.have ≡ Done = sym counts.1 ∙ e in cc }
+
+pub IsRefusal-count : (dir query : List ℕ) (files : Option Files) (status : Status) → CountComes dir query files (Err status) → IsRefusal status
+IsRefusal-count dir query files status h =
+    count_by files h.found (asked_of dir query h.found) status (asked_so dir query h.found) h.counts
+
+list_so : (dir : List ℕ) (found : Found) → FailsSo (list_result dir found)
+unfolding list_result
+list_so dir found = step (dataset_or_refusal dir found) _ (dataset_so dir found) (λ dataset. good {A = List ℕ} (listing dataset))
+
+pub IsRefusal-list : (dir : List ℕ) (files : Option Files) (status : Status) → ListComes dir files (Err status) → IsRefusal status
+IsRefusal-list dir files status h = by_result (list_result dir h.found) status (list_so dir h.found) h.is

@@ -1,0 +1,69 @@
+-- Why a command ended with its status, and what it printed, over any files.
+use Rattle.std.specs.Prelude.{◌≡◌, ◌⊎◌, ℕ, Bool, true, false, List, Option, Result}
+use Rattle.fb_outside.specs.Files.{Files}
+use Rattle.fb_types.specs.Table.{Table}
+use Rattle.command_words.specs.declared.Load.{Load}
+use Rattle.statuses.specs.declared.Status.{Status}
+use Rattle.statuses.specs.declared.Status.TheVariants.{Usage, ReadFault, StoreFault, OutOfMemory}
+use Rattle.statuses.specs.Outcome.{Outcome, refused}
+use Rattle.ardea.specs.Load.{Gives, outcome_of}
+use Rattle.ibis.specs.Count.{CountComes, answer_of}
+use Rattle.ibis.specs.Listing.{ListComes, listed}
+use Rattle.commands.specs.Command.{Command, Loads, Counts, Lists, Unknown}
+use Rattle.commands.specs.Reply.{Replies, is_fault}
+
+-- what a load comes to: the definition's answer for some input and some files, which are those that source and store tell
+pub record LoadComesTo (load : Load) (left : Option (List ℕ)) (files : Option Files) (reply : Outcome) : Type 0 where
+  pub result : Result Table Status
+  pub given : Gives load left files result
+  pub is : reply ≡ outcome_of load result
+
+-- a question, over the files that the store tells
+pub record CountComesTo (dir query : List ℕ) (files : Option Files) (reply : Outcome) : Type 0 where
+  pub result : Result ℕ Status
+  pub comes : CountComes dir query files result
+  pub is : reply ≡ answer_of result
+
+-- and a listing
+pub record ListComesTo (dir : List ℕ) (files : Option Files) (reply : Outcome) : Type 0 where
+  pub result : Result (List ℕ) Status
+  pub comes : ListComes dir files result
+  pub is : reply ≡ listed result
+
+-- what a command comes to over the input and the files, as far as source and store tell them
+abbrev pub ComesTo : Command → Option (List ℕ) → Option Files → Outcome → Type 0
+ComesTo (Loads load) left files reply = LoadComesTo load left files reply
+ComesTo (Counts dir query) left files reply = CountComesTo dir query files reply
+ComesTo (Lists dir) left files reply = ListComesTo dir files reply
+ComesTo Unknown left files reply = reply ≡ refused Usage
+
+-- the status is that of what the command comes to
+pub record IsStatusOf (comes : Outcome → Type 0) (status : Status) : Type 0 where
+  pub reply : Outcome
+  pub come : comes reply
+  pub is : status ≡ reply.status
+
+-- Each status but a fault comes exactly where the command comes to it.
+abbrev pub HasCauseIn : (Outcome → Type 0) → Status → Type 0
+HasCauseIn comes status = (is_fault status ≡ true) ⊎ IsStatusOf comes status
+
+-- what the command comes to was printed: all of it, or a front where printing failed
+pub record Printed (comes : Outcome → Type 0) (status : Status) (old new : Option (List ℕ)) : Type 0 where
+  pub reply : Outcome
+  pub come : comes reply
+  pub replies : Replies reply status old new
+
+-- a status with which a command ends before it prints
+abbrev pub is_silent : Status → Bool
+is_silent ReadFault = true
+is_silent StoreFault = true
+is_silent OutOfMemory = true
+is_silent status = false
+
+abbrev pub SaysBy : Bool → (Outcome → Type 0) → Status → Option (List ℕ) → Option (List ℕ) → Type 0
+SaysBy true comes status old new = new ≡ old
+SaysBy false comes status old new = Printed comes status old new
+
+-- A command prints what it comes to, or ends silently. `old` and `new` are what the sink had written before and after.
+abbrev pub Says : (Outcome → Type 0) → Status → Option (List ℕ) → Option (List ℕ) → Type 0
+Says comes status old new = SaysBy (is_silent status) comes status old new

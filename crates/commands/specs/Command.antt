@@ -1,0 +1,43 @@
+-- The commands, and what each answers and does in a world.
+use Rattle.std.specs.Prelude.{ℕ, true, false, List, Option, Some, None}
+use Rattle.command_words.specs.declared.Job.{Job}
+use Rattle.command_words.specs.declared.Job.TheVariants.{Ardea, Gen, Ibis, Session}
+use Rattle.command_words.specs.declared.Load.{Load}
+use Rattle.command_words.specs.declared.Task.{Task}
+use Rattle.command_words.specs.declared.Task.TheVariants as task
+use Rattle.world.specs.World.{World}
+use Rattle.statuses.specs.declared.Status.TheVariants.{Usage}
+use Rattle.statuses.specs.Outcome.{Outcome, refused}
+use Rattle.ardea.specs.Load.{load_outcome}
+use Rattle.ibis.specs.Count.{count_outcome}
+use Rattle.ibis.specs.Listing.{list_outcome}
+
+-- a load, a question for a count, a listing; and words that are no request, or ask for what isn't there as yet
+pub data Command : Type 0 where
+  Loads : (load : Load) → Command
+  Counts : (dir query : List ℕ) → Command
+  Lists : (dir : List ℕ) → Command
+  Unknown : Command
+
+abbrev pub command_of_task : List ℕ → Task → Command
+command_of_task dir (task.Answer query false) = Counts dir query
+command_of_task dir (task.Answer query true) = Unknown
+command_of_task dir (task.Estimate query) = Unknown
+command_of_task dir (task.Build spec columns) = Unknown
+command_of_task dir task.Check = Unknown
+command_of_task dir task.List = Lists dir
+
+-- the command that is asked for; a session is none by itself
+abbrev pub command_of : Option Job → Command
+command_of None = Unknown
+command_of (Some (Ardea load)) = Loads load
+command_of (Some (Ibis dir task)) = command_of_task dir task
+command_of (Some Session) = Unknown
+command_of (Some (Gen rows seed)) = Unknown
+
+-- what a command answers and does in a world, with this input
+abbrev pub command_outcome : Command → List ℕ → World → Outcome
+command_outcome (Loads load) input world = load_outcome load input world
+command_outcome (Counts dir query) input world = count_outcome dir query world
+command_outcome (Lists dir) input world = list_outcome dir world
+command_outcome Unknown input world = refused Usage

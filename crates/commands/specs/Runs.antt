@@ -1,0 +1,56 @@
+-- How a command ran: what it came to, what it left of the files, and what it printed.
+use Rattle.std.specs.Prelude.{◌≡◌, ◌⊎◌, ℕ, true, false, List, Option, Ok, Err}
+use Rattle.fb_outside.specs.Files.{Files, SameFiles}
+use Rattle.fb_outside.specs.Puts.{PutsAll}
+use Rattle.fb_outside.specs.Streams.{ForSomeInput, Grows, GrowsInPart}
+use Rattle.fb_types.specs.Table.{Table}
+use Rattle.command_words.specs.declared.Load.{Load}
+use Rattle.part_meta.specs.declared.catalog.Catalog.{Catalog}
+use Rattle.dataset.specs.Appended.{append_files}
+use Rattle.statuses.specs.declared.Status.{Status}
+use Rattle.statuses.specs.declared.Status.TheVariants.{ReadFault, StoreFault, SinkFault, OutOfMemory}
+use Rattle.statuses.specs.Outcome.{Outcome, refused}
+use Rattle.ardea.specs.Load.{Gives, outcome_of}
+use Rattle.ardea.specs.Done.{GoesThrough, IsCut}
+use Rattle.ardea.specs.Order.{load_asks_store, load_takes_input}
+use Rattle.world.specs.World.{World}
+use Rattle.world.specs.Stands.{StandsFor}
+use Rattle.commands.specs.Command.{Command, command_outcome}
+use Rattle.commands.specs.Causes.{ComesTo}
+use Rattle.commands.specs.Order.{asks_store, takes_input}
+use Rattle.commands.specs.Reply.{is_fault}
+
+-- The text was printed and the command ends so; or printing failed, with a front of the text; or memory ran out before it.
+abbrev pub Prints : Status → List ℕ → Option (List ℕ) → Option (List ℕ) → Status → Type 0
+Prints done text old new status =
+    ((status ≡ done) × Grows old new text)
+    ⊎ (((status ≡ SinkFault) × GrowsInPart old new text) ⊎ ((status ≡ OutOfMemory) × (new ≡ old)))
+
+-- where the files stand for a world, the reply is the definition's, for some input that is what the source tells
+abbrev pub IsReplyIn : Command → Option (List ℕ) → Option Files → Outcome → Type 0
+IsReplyIn command left files reply =
+    ForSomeInput left (λ input. (world : World) → StandsFor files world → reply ≡ command_outcome command input world)
+
+-- The command came to a reply, which was printed; or it stopped before it printed.
+pub data Runs (command : Command) (left : Option (List ℕ)) (files : Option Files) (before after : Option (List ℕ)) (status : Status) : Type 0 where
+  Answers : (reply : Outcome) → ComesTo command left files reply → IsReplyIn command left files reply
+      → is_fault reply.status ≡ false → Prints reply.status reply.text before after status → Runs command left files before after status
+  Unread : takes_input command ≡ true → after ≡ before → status ≡ ReadFault → Runs command left files before after status
+  Unstored : ForSomeInput left (λ input. asks_store command input ≡ true) → after ≡ before → status ≡ StoreFault
+      → Runs command left files before after status
+  Stops : after ≡ before → status ≡ OutOfMemory → Runs command left files before after status
+
+-- A load went through, or was refused, and this was printed; or it stopped before it printed.
+pub data LoadRuns (load : Load) (left : Option (List ℕ)) (old new : Option Files) (before after : Option (List ℕ)) (status : Status) : Type 0 where
+  Loaded : (table : Table) (catalog : Catalog) → GoesThrough load left old table catalog
+      → PutsAll (append_files load.dir catalog load.per_part table.records) old new
+      → Prints (outcome_of load (Ok table)).status (outcome_of load (Ok table)).text before after status
+      → LoadRuns load left old new before after status
+  Refuses : (refusal : Status) → Gives load left old (Err refusal) → SameFiles old new
+      → Prints refusal (refused refusal).text before after status → LoadRuns load left old new before after status
+  LoadUnread : load_takes_input load ≡ true → SameFiles old new → after ≡ before → status ≡ ReadFault
+      → LoadRuns load left old new before after status
+  LoadUnstored : ForSomeInput left (λ input. load_asks_store load input ≡ true) → SameFiles old new ⊎ IsCut load left old new
+      → after ≡ before → status ≡ StoreFault → LoadRuns load left old new before after status
+  Cut : SameFiles old new ⊎ IsCut load left old new → after ≡ before → status ≡ OutOfMemory
+      → LoadRuns load left old new before after status

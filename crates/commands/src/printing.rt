@@ -1,0 +1,74 @@
+//! What a command prints.
+
+ghost use Rattle.std.specs.Prelude.{◌≡◌, false, IfOk, string_bytes};
+ghost use Rattle.fb_outside.specs.Causes.{HasCause};
+ghost use Rattle.statuses.specs.Lines.{line_of};
+ghost use Rattle.ardea.specs.Load.{loaded_line};
+ghost use Rattle.ibis.specs.Count.{hits_line};
+ghost use Rattle.commands.specs.Reply.{is_fault};
+ghost use Rattle.commands.specs.Runs.{Prints};
+
+use fb_outside::{Sink, Trouble};
+use statuses::Status;
+use std::alloc::{AllocError, Global};
+
+/// Prints the line of a refusal, which is the command's status unless printing fails.
+pub(crate) fn refuse<K: Sink>(alloc: Global, out: &mut K, status: Status) -> Status
+    requires { is_fault status ≡ false }
+    ensures cause { HasCause (K.faults out.old) (K.faults out.new) (result ≡ Status.SinkFault) }
+    ensures prints { Prints status (line_of status) (K.written out.old) (K.written out.new) result }
+{
+    match status.line(alloc) {
+        Ok(line) => print_text(out, line.as_bytes(), status),
+        Err(_) => Status::OutOfMemory,
+    }
+}
+
+/// Prints how many records were loaded.
+pub(crate) fn print_loaded<K: Sink>(alloc: Global, out: &mut K, rows: u64) -> Status
+    ensures cause { HasCause (K.faults out.old) (K.faults out.new) (result ≡ Status.SinkFault) }
+    ensures prints { Prints Status.Done (loaded_line rows) (K.written out.old) (K.written out.new) result }
+{
+    match loaded_text(alloc, rows) {
+        Ok(line) => print_text(out, line.as_bytes(), Status::Done),
+        Err(_) => Status::OutOfMemory,
+    }
+}
+
+#[tactic(auto, unfolding(ardea::specs::Load::loaded_line))]
+fn loaded_text(alloc: Global, rows: u64) -> Result<String, AllocError>
+    ensures { IfOk result (λ line. string_bytes line ≡ loaded_line rows) }
+{
+    format!(in alloc; "loaded {rows} rows\n")
+}
+
+/// Prints how many records there are that a clause holds on.
+pub(crate) fn print_hits<K: Sink>(alloc: Global, out: &mut K, hits: u64) -> Status
+    ensures cause { HasCause (K.faults out.old) (K.faults out.new) (result ≡ Status.SinkFault) }
+    ensures prints { Prints Status.Done (hits_line hits) (K.written out.old) (K.written out.new) result }
+{
+    match hits_text(alloc, hits) {
+        Ok(line) => print_text(out, line.as_bytes(), Status::Done),
+        Err(_) => Status::OutOfMemory,
+    }
+}
+
+#[tactic(auto, unfolding(ibis::specs::Count::hits_line))]
+fn hits_text(alloc: Global, hits: u64) -> Result<String, AllocError>
+    ensures { IfOk result (λ line. string_bytes line ≡ hits_line hits) }
+{
+    format!(in alloc; "hits {hits}\n")
+}
+
+/// Prints a text, and ends so unless printing fails.
+pub(crate) fn print_text<K: Sink>(out: &mut K, text: &[u8], done: Status) -> Status
+    requires { is_fault done ≡ false }
+    ensures cause { HasCause (K.faults out.old) (K.faults out.new) (result ≡ Status.SinkFault) }
+    ensures prints { Prints done text.now (K.written out.old) (K.written out.new) result }
+{
+    match out.put(text) {
+        Ok(()) => done,
+        Err(Trouble::Failed) => Status::SinkFault,
+        Err(Trouble::OutOfMemory) => Status::OutOfMemory,
+    }
+}

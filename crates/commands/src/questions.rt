@@ -1,0 +1,90 @@
+//! What is asked of a dataset: commands that take no input and change no file.
+
+ghost use Rattle.std.specs.Prelude.{◌≡◌, ℕ, IsUtf8, List, Option};
+ghost use Rattle.fb_outside.specs.Causes.{HasCause};
+ghost use Rattle.fb_outside.specs.Files.{SameFiles};
+ghost use Rattle.fb_outside.specs.Names.{IsPath};
+ghost use Rattle.command_words.specs.Valid.{IsValidTask};
+ghost use Rattle.commands.specs.Command.{Counts, Lists, command_of_task};
+ghost use Rattle.commands.specs.Runs.{Runs};
+
+use crate::printing::{print_hits, print_text, refuse};
+use command_words::Task;
+use fb_outside::{FileName, Sink, Store};
+use fb_types::Label;
+use ibis::{count, list};
+use statuses::{Status, Stop};
+use std::alloc::Global;
+use std::sync::ledger::Ledger;
+use steps::Steps;
+
+/// Runs what is asked of the dataset at a path, and prints the answer, or why there is none.
+pub(crate) fn run_task<S: Store, K: Sink, L: Ledger>(
+    alloc: Global,
+    dir: &FileName,
+    task: &Task,
+    store: &mut S,
+    out: &mut K,
+    steps: &mut Steps<L>,
+) -> Status
+    requires path { IsPath dir.now }
+    requires valid { IsValidTask task.now }
+    ensures runs { (left : Option (List ℕ)) → Runs (command_of_task dir.now task.now) left (S.files store.old)
+        (K.written out.old) (K.written out.new) result }
+    ensures files { SameFiles (S.files store.old) (S.files store.new) }
+    ensures store_cause { HasCause (S.faults store.old) (S.faults store.new) (result ≡ Status.StoreFault) }
+    ensures print_cause { HasCause (K.faults out.old) (K.faults out.new) (result ≡ Status.SinkFault) }
+{
+    match task {
+        Task::Answer { query, tell: false } => run_count(alloc, dir, query, store, out, steps),
+        Task::List => run_list(alloc, dir, store, out),
+        Task::Answer { tell: true, .. } => refuse(alloc, out, Status::Usage),
+        Task::Estimate { .. } => refuse(alloc, out, Status::Usage),
+        Task::Build { .. } => refuse(alloc, out, Status::Usage),
+        Task::Check => refuse(alloc, out, Status::Usage),
+    }
+}
+
+/// Counts the records that a query's clause holds on, and prints the count.
+fn run_count<S: Store, K: Sink, L: Ledger>(
+    alloc: Global,
+    dir: &FileName,
+    query: &Label,
+    store: &mut S,
+    out: &mut K,
+    steps: &mut Steps<L>,
+) -> Status
+    requires path { IsPath dir.now }
+    requires text { IsUtf8 query.now }
+    ensures runs { (left : Option (List ℕ)) → Runs (Counts dir.now query.now) left (S.files store.old)
+        (K.written out.old) (K.written out.new) result }
+    ensures files { SameFiles (S.files store.old) (S.files store.new) }
+    ensures store_cause { HasCause (S.faults store.old) (S.faults store.new) (result ≡ Status.StoreFault) }
+    ensures print_cause { HasCause (K.faults out.old) (K.faults out.new) (result ≡ Status.SinkFault) }
+{
+    match count(alloc, dir, query, store, steps) {
+        Ok(hits) => print_hits(alloc, out, hits),
+        Err(Stop::Refused(status)) => refuse(alloc, out, status),
+        Err(Stop::ReadFault) => unreachable!(),
+        Err(Stop::StoreFault) => Status::StoreFault,
+        Err(Stop::OutOfMemory) => Status::OutOfMemory,
+    }
+}
+
+/// Prints the lines of a dataset's schema and of its parts.
+fn run_list<S: Store, K: Sink>(alloc: Global, dir: &FileName, store: &mut S, out: &mut K) -> Status
+    requires path { IsPath dir.now }
+    ensures runs { (left : Option (List ℕ)) → Runs (Lists dir.now) left (S.files store.old)
+        (K.written out.old) (K.written out.new) result }
+    ensures files { SameFiles (S.files store.old) (S.files store.new) }
+    ensures store_cause { HasCause (S.faults store.old) (S.faults store.new) (result ≡ Status.StoreFault) }
+    ensures print_cause { HasCause (K.faults out.old) (K.faults out.new) (result ≡ Status.SinkFault) }
+{
+    match list(alloc, dir, store) {
+        Ok(text) => print_text(out, text.as_slice(), Status::Done),
+        Err(Stop::Refused(status)) => refuse(alloc, out, status),
+        Err(Stop::ReadFault) => unreachable!(),
+        Err(Stop::StoreFault) => Status::StoreFault,
+        Err(Stop::OutOfMemory) => Status::OutOfMemory,
+    }
+}

@@ -1,0 +1,15 @@
+pub mod LoadLemmas
+pub mod OpeningLemmas
+pub mod PartsLemmas
+pub mod ListLemmas
+pub mod SameLemmas
+pub mod WorldLemmas
+pub mod FitLemmas
+pub mod ColumnLemmas
+pub mod LookLemmas
+pub mod CellLemmas
+pub mod CodeLemmas
+pub mod FileLemmas
+pub mod GrowingLemmas
+pub mod RefusalLemmas
+pub mod AppendLemmas

@@ -1,0 +1,12 @@
+pub mod Opened
+pub mod Damage
+pub mod Appended
+pub mod InWorld
+pub mod PartColumns
+pub mod Looks
+pub mod Found
+pub mod Loads
+pub mod Stops
+pub mod Growing
+pub mod Refusing
+pub mod WrittenColumns

@@ -1,0 +1,68 @@
+-- What the steps of a command come to together.
+use Rattle.std.proofs.Common.{◌≡◌, ◌*◌, ℕ, Bool, true, false, List, [], length, Option, Some, None, IfSome, IsSome, is_some, Result, Ok, Err, refl, sym, ap, subst, ◌∙◌}
+use Rattle.std.specs.List.{position, slice_get}
+use Rattle.std.specs.Prelude.{IfErr, IfOk}
+use Rattle.std.specs.Str.{bytes_eq}
+use Rattle.std.proofs.lemmas.List.Quantifiers.{position-Some}
+use Rattle.std.proofs.lemmas.Option.{get_or_from_slice_get}
+use Rattle.std.proofs.lemmas.Slice.Eq.{bytes_eq-Decides}
+use Rattle.fb_outside.specs.Files.{Files}
+use Rattle.fb_types.specs.declared.schemas.Column.{Column}
+use Rattle.fb_types.specs.Schemas.{place_of}
+use Rattle.fb_types.specs.Types.{ends_of}
+use Rattle.dataset.specs.declared.content.Dataset.{Dataset}
+use Rattle.statuses.specs.declared.Status.{Status}
+use Rattle.statuses.specs.declared.stop.Stop.{Stop}
+use Rattle.statuses.specs.declared.stop.Stop.TheVariants.{Refused, ReadFault, StoreFault, OutOfMemory}
+use Rattle.statuses.specs.Outcome.{◌>>=◌}
+use Rattle.ibis.specs.declared.query.Below.{Below}
+use Rattle.ibis.specs.Listing.{ListComes, ListGives, list_result, listing}
+use Rattle.ibis.specs.Query.{column_in, resolved, typed_or_refusal}
+use Rattle.ibis.specs.Steps.{Finds, IsAsked, Opened, StopsIn}
+
+-- ---- the column of a name
+
+module _ (schema : List Column) (below : Below) (column : Column) where
+  called : (place : ℕ) → place_of schema below.name ≡ Some place → slice_get schema place ≡ Some column → column.name ≡ below.name
+  called place e at =
+      let test = (position-Some (λ (c : Column). bytes_eq c.name below.name) schema place column e).1 in
+      let is = get_or_from_slice_get schema place column column at in
+      let named : bytes_eq column.name below.name ≡ true = subst (λ (c : Column). bytes_eq c.name below.name ≡ true) is test in
+      (bytes_eq-Decides column.name below.name).0 named
+
+  asked_by : (o : Option ℕ) → place_of schema below.name ≡ o → Some column ≡ column_in schema o → is_some (ends_of column.ty) ≡ true → IsAsked schema below column
+  asked_by None e h w = absurd (cc)
+  asked_by (Some place) e h w =
+      record {
+        place = place;
+        first = e;
+        in_schema = sym h;
+        named = called place e (sym h);
+        whole = w;
+        resolves = ap (λ (o : Option ℕ). typed_or_refusal below (column_in schema o)) e ∙ ap (typed_or_refusal below) (sym h) ∙ rw w refl;
+      }
+
+  pub asked : (name : List ℕ) (whole : Bool) → Some column ≡ column_in schema (place_of schema name) → name ≡ below.name
+      → whole ≡ is_some (ends_of column.ty) → whole ≡ true → IsAsked schema below column
+  asked name whole h same is passed =
+      asked_by (place_of schema below.name) refl (h ∙ ap (λ n. column_in schema (place_of schema n)) same) (sym is ∙ passed)
+
+-- ---- a listing
+
+pub listing_stops : (dir : List ℕ) (files : Option Files) (stop : Stop) → Finds dir files (Err stop) → ListGives dir files (Err stop)
+unfolding list_result
+listing_stops dir files (Refused status) h = record { found = h.found; told = h.told; is = rw h.is refl }
+listing_stops dir files ReadFault h = h
+listing_stops dir files StoreFault h = h
+listing_stops dir files OutOfMemory h = h
+
+pub listing_comes : (dir : List ℕ) (files : Option Files) (dataset : Dataset) (text : List ℕ) → Finds dir files (Ok dataset) → text ≡ listing dataset
+    → ListComes dir files (Ok text)
+unfolding list_result
+listing_comes dir files dataset text h e = record { found = h.found; told = h.told; is = rw h.is (ap Ok (sym e)) }
+
+-- ---- a step that may stop
+
+pub stops_where : (files : Option Files) (dataset : Dataset) (name : List ℕ) (result : Result ℕ Stop) → IfErr result (StopsIn files dataset name)
+    → (stop : Stop) → result ≡ Err stop → StopsIn files dataset name stop
+stops_where files dataset name result h stop e = subst (λ (r : Result ℕ Stop). IfErr r (StopsIn files dataset name)) e h

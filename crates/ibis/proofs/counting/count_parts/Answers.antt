@@ -1,0 +1,31 @@
+use Rattle.std.proofs.Common.{◌≡◌, ◌<◌, ◌+◌, Option, Some, length, take, ap, sym, subst, ◌∙◌, arith}
+use Rattle.std.specs.List.{slice_get}
+use Rattle.std.proofs.lemmas.List.{length-map, take_all}
+use Rattle.std.proofs.lemmas.Option.{slice_get_read}
+use Rattle.fb_outside.specs.Files.{Files}
+use Rattle.part_meta.specs.declared.part.PartMeta.{PartMeta}
+use Rattle.ibis.specs.Rows.{cells_in_parts, passing}
+use Rattle.ibis.proofs.PartLemmas.{all_parts, next_part, part_at}
+use Rattle.ibis.proofs.counting.count_parts.Goals as goal
+
+pub loop-part-preserved : goal.loop-part-preserved
+loop-part-preserved g c =
+    let at = part_at c.args.dataset.now _ c.loop-part.part-index c.part-item.result c.requires.valid c.as_slice-part-items.ensures
+    (omega (arith, c.loop-part-test.true)) c.part-item.is in
+    record {
+      unfailed = (rw c.in_ok-hits.was at c.count_part.ensures.cause).told (λ e. cc) ∙ c.loop-part.invariant.unfailed;
+      kept = c.count_part.ensures.files ∙ c.loop-part.invariant.kept;
+      few = omega (arith, c.loop-part.invariant.few, c.in_ok-hits.ensures.few, at.0);
+      counts = λ m col parts told has.
+          next_part m c.args.dataset.now c.args.column.now col parts c.args.below.now.limit c.loop-part.part-index c.part-item.result c.loop-part.hits c.in_ok-hits.field-0
+          has at.1 (λ cells size there. c.in_ok-hits.ensures.counts m cells (c.loop-part.invariant.kept ∙ told) size there)
+          (c.loop-part.invariant.counts m col parts told has);
+    }
+
+pub returns-clause-counts : goal.returns-clause-counts
+returns-clause-counts g c m col parts told has =
+    c.loop-part.invariant.counts m col parts told has
+    ∙ ap (λ ps. passing c.args.below.now.limit (cells_in_parts col ps))
+    (take_all c.loop-part.part-index parts
+    (all_parts m c.args.dataset.now c.args.column.now col parts c.loop-part.part-index has
+    (omega (arith, c.loop-part-test.false, ap length c.as_slice-part-items.ensures))))

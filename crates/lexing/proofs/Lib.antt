@@ -1,0 +1,5 @@
+pub mod Cases
+pub mod Runs
+pub mod DigitLemmas
+pub mod Steps
+pub mod Laws

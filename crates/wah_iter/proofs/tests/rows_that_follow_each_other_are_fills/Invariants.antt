@@ -1,0 +1,4 @@
+use Rattle.wah_iter.proofs.tests.rows_that_follow_each_other_are_fills.Given as goal
+
+abbrev pub ghosts-bytes_of : goal.ghosts-bytes_of
+ghosts-bytes_of g a = record { name = a.blank.name; parts = a.blank.parts }

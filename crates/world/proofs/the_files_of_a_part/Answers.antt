@@ -1,0 +1,15 @@
+use Rattle.std.proofs.Common.{refl}
+use Rattle.std.specs.Fmt.{digits}
+use Rattle.wah_words.specs.Bytes.{active_bytes, number_bytes as word_bytes, spelling, words_bytes}
+use Rattle.wah_words.specs.Spelling.{groups_in, regular_words, rest_of}
+use Rattle.column_file.specs.Values.{number_bytes, values_bytes}
+use Rattle.text_column.specs.Texts.{starts_bytes}
+use Rattle.fb_types.specs.Types.{type_name}
+use Rattle.part_meta.specs.FileNames.{file_name, leaf, part_folder}
+use Rattle.part_meta.specs.PartText.{column_begin_line, column_end_line, count_line, header_begin_line, header_end_line, name_line, number_line, part_text, rows_line, type_line}
+use Rattle.world.specs.PartFiles.{column_files, part_files}
+use Rattle.world.proofs.the_files_of_a_part.Goals as goal
+
+pub returns : goal.returns
+unfolding part_files column_files file_name part_folder leaf values_bytes number_bytes spelling starts_bytes part_text column_begin_line column_end_line count_line header_begin_line header_end_line name_line number_line rows_line type_line type_name digits word_bytes active_bytes words_bytes regular_words groups_in rest_of
+returns c = refl

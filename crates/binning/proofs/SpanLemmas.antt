@@ -14,7 +14,7 @@ use Rattle.binning.specs.declared.span_lists.Span.{Span}
 use Rattle.binning.specs.Spans.{int_le, in_span, has, AreApart, IsFirstReaching, IsSpanInRange, HasNumber, LeastsRise, has_number}
 use Rattle.binning.specs.Joined.{Joined}
 use Rattle.binning.specs.Against.{covers, meets, against}
-use Rattle.binning.specs.declared.answers.Three.TheVariants.{Yes, No, Unknown}
+use Rattle.binning.specs.declared.against_bins.Three.TheVariants.{Yes, No, Unknown}
 use Rattle.binning.proofs.TestLemmas.{either, not_both, int_le-true, int_le-false, le_from, or_false}
 
 pub has_number_of : (s : Span) (spans : List Span) → AreApart (s ∷ spans) → s.least ≤ℤ s.greatest

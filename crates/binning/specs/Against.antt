@@ -3,8 +3,8 @@ use Rattle.std.specs.Prelude.{Bool, ◌&&◌, if◌then◌else◌, List, ℤ}
 use Rattle.std.specs.List.{list_any}
 use Rattle.binning.specs.Spans.{int_le}
 use Rattle.binning.specs.declared.span_lists.Span.{Span}
-use Rattle.binning.specs.declared.answers.Three.{Three}
-use Rattle.binning.specs.declared.answers.Three.TheVariants.{Yes, No, Unknown}
+use Rattle.binning.specs.declared.against_bins.Three.{Three}
+use Rattle.binning.specs.declared.against_bins.Three.TheVariants.{Yes, No, Unknown}
 
 -- the span has each number of the range
 abbrev pub covers : ℤ → ℤ → Span → Bool

@@ -5,7 +5,7 @@
 //! in order of their values, too.
 #![tactic(auto)]
 
-mod answers;
+mod against_bins;
 mod bin_rows;
 mod bounds;
 mod digits;
@@ -17,7 +17,7 @@ mod masks;
 mod rules;
 mod span_lists;
 
-pub use answers::{Three, against};
+pub use against_bins::{Three, against};
 pub use encodings::{EncFault, Encoding};
 pub use gathering::{Bin, Gatherer, bins};
 pub use groups::Group;

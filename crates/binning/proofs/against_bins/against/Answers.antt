@@ -6,8 +6,8 @@ use Rattle.binning.specs.Spans.{AreApart, IsFirstReaching}
 use Rattle.binning.specs.Against.{against, covers}
 use Rattle.binning.specs.declared.span_lists.Span.{Span}
 use Rattle.binning.proofs.SpanLemmas.{against_none, against_yes, against_unknown, against_no, uncovered_low, uncovered_high}
-use Rattle.binning.proofs.answers.against.Goals as goal
-use Rattle.binning.proofs.answers.against.Goals.{else-span-least-via-then-span-least+else-greatest-span, else-span-least-via-else-span-least}
+use Rattle.binning.proofs.against_bins.against.Goals as goal
+use Rattle.binning.proofs.against_bins.against.Goals.{else-span-least-via-then-span-least+else-greatest-span, else-span-least-via-else-span-least}
 
 pub returns-then-place-list : goal.returns-then-place-list
 returns-then-place-list c =

@@ -13,7 +13,8 @@ use Rattle.dataset.specs.Found.{Found}
 use Rattle.statuses.specs.declared.LimitKind.TheVariants as limit
 use Rattle.statuses.specs.declared.Status.{Status}
 use Rattle.statuses.specs.declared.Status.TheVariants as status
-use Rattle.ardea.specs.Load.{NoFile, Reading, catalog_or_refusal, load_result, load_schema, load_table, most_rows, records_or_refusal, rows_or_refusal, schema_or_refusal, text_or_refusal, unless_refused}
+use Rattle.part_meta.specs.PartText.{most_rows}
+use Rattle.ardea.specs.Load.{NoFile, Reading, catalog_or_refusal, load_result, load_schema, load_table, records_or_refusal, rows_or_refusal, schema_or_refusal, text_or_refusal, unless_refused}
 use Rattle.statuses.specs.Outcome.{◌>>=◌}
 use Rattle.ardea.specs.Order.{asks_by, load_asks_store, load_takes_input}
 

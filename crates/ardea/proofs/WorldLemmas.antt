@@ -28,7 +28,8 @@ use Rattle.statuses.specs.declared.Status.{Status}
 use Rattle.statuses.specs.declared.stop.Stop.{Stop}
 use Rattle.statuses.specs.declared.stop.Stop.TheVariants.{Refused, ReadFault, StoreFault, OutOfMemory}
 use Rattle.statuses.specs.Outcome.{◌>>=◌}
-use Rattle.ardea.specs.Load.{Gives, Reading, catalog_or_refusal, load_result, load_schema, load_table, most_rows, reading_of, records_or_refusal, rows_or_refusal, schema_or_refusal, text_or_refusal, unless_refused}
+use Rattle.part_meta.specs.PartText.{most_rows}
+use Rattle.ardea.specs.Load.{Gives, Reading, catalog_or_refusal, load_result, load_schema, load_table, reading_of, records_or_refusal, rows_or_refusal, schema_or_refusal, text_or_refusal, unless_refused}
 use Rattle.ardea.specs.Done.{Ends, GoesThrough, IsCut, IsDone}
 use Rattle.ardea.proofs.LoadLemmas.{result_table, rows_few, schema_loaded, table_by, table_is}
 

@@ -10,6 +10,7 @@ use Rattle.fb_types.specs.Table.{Table}
 use Rattle.csv_load.specs.Loaded.{Fault, loaded}
 use Rattle.command_words.specs.declared.Load.{Load}
 use Rattle.part_meta.specs.declared.catalog.Catalog.{Catalog}
+use Rattle.part_meta.specs.PartText.{most_rows}
 use Rattle.dataset.specs.Appended.{Refusal, SchemaDiffers, TooManyParts, TooManyNumbers, most_numbers, most_parts, refusal}
 use Rattle.dataset.specs.Found.{Found, Absent, There, Broken, IsFound, found_in}
 use Rattle.dataset.specs.Opened.{catalog_in}
@@ -26,10 +27,6 @@ use Rattle.statuses.specs.Outcome.{◌>>=◌, Outcome, refused}
 abbrev pub schema_or_refusal : Result (List Column) SchemaFault → Result (List Column) Status
 schema_or_refusal (Ok schema) = Ok schema
 schema_or_refusal (Err fault) = Err (status.BadSchema fault.column fault.kind)
-
--- the most rows that a part may have
-abbrev pub most_rows : ℕ
-most_rows = 4194304
 
 abbrev pub rows_or_refusal : ℕ → List Column → Result (List Column) Status
 rows_or_refusal per_part schema =

@@ -9,6 +9,7 @@ ghost use Rattle.dataset.specs.Appended.{append_files};
 ghost use Rattle.dataset.specs.Opened.{IsDataset, catalog_in};
 ghost use Rattle.ardea.specs.Answers.{GivesCatalog, StopsBy, refusal_of};
 ghost use Rattle.ardea.specs.Load.{unless_refused};
+ghost use Rattle.part_meta.specs.PartText.{most_rows};
 
 use crate::reading::over;
 use dataset::{AppendFault, Dataset, OpenFault, append, create, open_dataset};
@@ -72,7 +73,7 @@ pub(crate) fn add<S: Store, L: Ledger>(
 ) -> Result<(), Stop>
     requires valid { IsDataset dataset.old }
     requires some { 1 ≤ per_part }
-    requires few { per_part ≤ 4194304 }
+    requires few { per_part ≤ most_rows }
     ensures cause { HasCause (S.faults store.old) (S.faults store.new) (IsErrOf result Stop.StoreFault) }
 
     // The refusal, and nothing is put; else all files in order, and a front of them where the store failed.

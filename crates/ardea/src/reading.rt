@@ -6,7 +6,8 @@ ghost use Rattle.fb_outside.specs.Files.{SameFiles};
 ghost use Rattle.fb_outside.specs.Streams.{ForSomeInput, IsAtEnd};
 ghost use Rattle.csv_load.specs.Loaded.{loaded};
 ghost use Rattle.ardea.specs.Answers.{GivesFile, GivesInput, GivesTable, GivesText, StopsBy};
-ghost use Rattle.ardea.specs.Load.{load_schema, most_input_bytes, most_rows, records_or_refusal};
+ghost use Rattle.part_meta.specs.PartText.{most_rows};
+ghost use Rattle.ardea.specs.Load.{load_schema, most_input_bytes, records_or_refusal};
 ghost use Rattle.ardea.specs.Order.{load_takes_input};
 
 use crate::{MOST_INPUT_BYTES, MOST_ROWS};

@@ -21,7 +21,8 @@ use Rattle.statuses.specs.declared.Status.{Status}
 use Rattle.statuses.specs.declared.Status.TheVariants.{BadQuery, Damaged, Done}
 use Rattle.statuses.specs.declared.Status.TheVariants as status
 use Rattle.statuses.specs.Outcome.{◌>>=◌}
-use Rattle.ardea.specs.Load.{Bytes, CutShort, Gives, NoFile, Reading, catalog_or_refusal, input_or_refusal, load_result, load_schema, load_table, most_input_bytes, most_rows, reading_or_refusal, records_or_refusal, rows_or_refusal, schema_or_refusal, text_or_refusal, unless_refused, within_limit}
+use Rattle.part_meta.specs.PartText.{most_rows}
+use Rattle.ardea.specs.Load.{Bytes, CutShort, Gives, NoFile, Reading, catalog_or_refusal, input_or_refusal, load_result, load_schema, load_table, most_input_bytes, reading_or_refusal, records_or_refusal, rows_or_refusal, schema_or_refusal, text_or_refusal, unless_refused, within_limit}
 use Rattle.ibis.specs.Count.{CountComes, CountsBy, asked_of, dataset_or_refusal}
 use Rattle.ibis.specs.Listing.{ListComes, list_result, listing}
 use Rattle.ibis.specs.declared.query.Below.{Below}

@@ -11,6 +11,7 @@ use Rattle.part_meta.specs.declared.catalog.Catalog.{Catalog}
 use Rattle.world.specs.World.{World, catalog_data, content_at}
 use Rattle.world.specs.Effects.{found_or_empty}
 use Rattle.dataset.specs.Appended.{append_files, refusal}
+use Rattle.part_meta.specs.PartText.{most_rows}
 
 -- the catalog before a load of these columns: the dataset's at the path, or of none
 abbrev pub catalog_before : World → List ℕ → List Column → Catalog
@@ -25,7 +26,7 @@ pub record IsLoad (world : World) (path : List ℕ) (schema : List Column) (per_
   pub proper : IsPath path
   pub valid : IsSchema schema
   pub some : 1 ≤ per_part
-  pub few : per_part ≤ 4194304
+  pub few : per_part ≤ most_rows
   pub fit : All (λ cells. RecordFits cells schema) records
   pub accepted : refusal (catalog_before world path schema) schema per_part (length records) ≡ None
 

@@ -13,6 +13,7 @@ use Rattle.part_meta.specs.FileNames.{file_name}
 use Rattle.text_column.specs.Words.{code_in, with_word}
 use Rattle.world.specs.World.{Partition}
 use Rattle.world.specs.PartFiles.{column_cells}
+use Rattle.part_meta.specs.PartText.{most_rows}
 
 -- the dataset's path, the part's number, the column, and its cells from the top
 pub record ColumnOfPart : Type 0 where
@@ -25,7 +26,7 @@ pub record ColumnOfPart : Type 0 where
 pub record IsColumnOfPart (part : ColumnOfPart) : Type 0 where
   pub path : IsPath part.dir
   pub number : part.number < 4096
-  pub few : length part.cells ≤ 4194304
+  pub few : length part.cells ≤ most_rows
   pub fit : All (λ cell. CellFits cell part.column.ty) part.cells
 
 abbrev pub cell_of : ColumnOfPart → ℕ → Cell

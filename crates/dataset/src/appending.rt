@@ -13,6 +13,7 @@ ghost use Rattle.world.specs.PartFiles.{part_files};
 ghost use Rattle.dataset.specs.Appended.{Refuses, append_files, appended, refusal};
 ghost use Rattle.dataset.specs.Opened.{IsDataset, catalog_in};
 ghost use Rattle.dataset.specs.Stops.{fault_for};
+ghost use Rattle.part_meta.specs.PartText.{most_rows};
 
 use crate::content::Dataset;
 use crate::fault::AppendFault;
@@ -38,7 +39,7 @@ pub fn append<S: Store, L: Ledger>(
 ) -> Result<u32, AppendFault>
     requires valid { IsDataset dataset.old }
     requires some { 1 ≤ per_part }
-    requires few { per_part ≤ 4194304 }
+    requires few { per_part ≤ most_rows }
     ensures cause { HasCause (S.faults store.old) (S.faults store.new) (IsErrOf result AppendFault.Store) }
     ensures reads { S.reads store.new ≡ S.reads store.old }
     ensures valid { IsDataset dataset.new }
@@ -74,7 +75,7 @@ fn extend<S: Store, L: Ledger>(
     requires path { IsPath dataset.old.dir }
     requires schema { dataset.old.schema ≡ columns.now.schema }
     requires some { 1 ≤ per_part }
-    requires few { per_part ≤ 4194304 }
+    requires few { per_part ≤ most_rows }
     requires numbers { dataset.old.next + part_count per_part (length columns.now.records) ≤ 4096 }
     requires count { count ≡ part_count per_part (length columns.now.records) }
     ensures cause { HasCause (S.faults store.old) (S.faults store.new) (IsErrOf result AppendFault.Store) }
@@ -110,7 +111,7 @@ fn write_files<S: Store, L: Ledger>(
 ) -> Result<(), Trouble>
     requires path { IsPath dataset.now.dir }
     requires some { 1 ≤ per_part }
-    requires few { per_part ≤ 4194304 }
+    requires few { per_part ≤ most_rows }
     requires numbers { next + part_count per_part (length columns.now.records) ≤ 4096 }
     ensures cause { HasCause (S.faults store.old) (S.faults store.new) (IsErrOf result Trouble.Failed) }
     ensures files { PutsInOrder (flat_map (part_files dataset.now.dir columns.now.schema) (new_parts next per_part columns.now.records)

@@ -6,11 +6,12 @@ ghost use Rattle.fb_types.specs.Cells.{CellFits};
 ghost use Rattle.fb_types.specs.Types.{ends_of};
 ghost use Rattle.column_file.specs.Values.{ValueFits};
 ghost use Rattle.text_column.specs.TextFiles.{AreFilesOf};
-ghost use Rattle.text_column.specs.Words.{IsWord, code_in, with_word};
+ghost use Rattle.text_column.specs.Words.{IsWord, code_in, with_word, most_words};
 ghost use Rattle.wah_words.specs.Places.{places};
 ghost use Rattle.world.specs.PartFiles.{code_of, dictionary_of, is_present, number_of, texts_of, word_of};
 ghost use Rattle.dataset.specs.WrittenColumns.{IsCodeOf, cell_of, with_cell};
 ghost use Rattle.fb_types.specs.declared.types.ColType.TheVariants.{Category};
+ghost use Rattle.part_meta.specs.PartText.{most_rows};
 
 use crate::part_column::PartColumn;
 use fb_types::Label;
@@ -61,7 +62,7 @@ pub(crate) fn mask_of(alloc: Global, part: &PartColumn<'_>) -> Result<Wah, Alloc
 /// The mask of so many groups of 31 rows, from the top.
 fn whole_groups(alloc: Global, part: &PartColumn<'_>, groups: u32) -> Result<Builder, AllocError>
     requires there { 31 * groups ≤ length part.now.cells }
-    requires few { length part.now.cells ≤ 4194304 }
+    requires few { length part.now.cells ≤ most_rows }
     ensures values { IfOk result (λ mask. mask.values ≡ map is_present (take (31 * groups) part.now.cells)) }
 {
     let mut mask = Builder::with_room(alloc, groups)?;
@@ -75,7 +76,7 @@ fn whole_groups(alloc: Global, part: &PartColumn<'_>, groups: u32) -> Result<Bui
 fn group_of(part: &PartColumn<'_>, first: u32, count: u32) -> u32
     requires rows { first + count ≤ length part.now.cells }
     requires few { count ≤ 31 }
-    requires small { length part.now.cells ≤ 4194304 }
+    requires small { length part.now.cells ≤ most_rows }
     ensures places { places count result ≡ map is_present (take count (drop first part.now.cells)) }
     ensures fits { result < 2 ^ count }
 {
@@ -118,7 +119,7 @@ fn code_at(
     requires row { row < length part.now.cells }
     requires fit { All (λ cell. CellFits cell part.now.column.ty) part.now.cells }
     requires column { IsNone (ends_of part.now.column.ty) }
-    requires few { length words.old < 4194304 }
+    requires few { length words.old < most_words }
     ensures words { OnOk result (words.new ≡ with_cell words.old (cell_of part.now row)) }
     ensures code { IfOk result (IsCodeOf words.new (cell_of part.now row)) }
 {
@@ -131,7 +132,7 @@ fn code_at(
 /// The code of a word, which is added where it is new.
 fn code_for(alloc: Global, words: &mut Dictionary, word: &[u8]) -> Result<u32, AllocError>
     requires word { IsWord word.now }
-    requires few { length words.old < 4194304 }
+    requires few { length words.old < most_words }
     ensures words { OnOk result (words.new ≡ with_word words.old word.now) }
     ensures code { IfOk result (λ code. code_in words.new word.now ≡ Some code) }
 {

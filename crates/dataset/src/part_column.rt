@@ -8,6 +8,7 @@ ghost use Rattle.fb_types.specs.Types.{ends_of};
 ghost use Rattle.fb_types.specs.declared.cells.Cell.TheVariants as cell;
 ghost use Rattle.world.specs.PartFiles.{column_cells, is_present};
 ghost use Rattle.dataset.specs.WrittenColumns.{cell_of, records_from};
+ghost use Rattle.part_meta.specs.PartText.{most_rows};
 
 use fb_outside::FileName;
 use fb_types::{ColType, Column, Columns};
@@ -51,7 +52,7 @@ impl<'a> PartColumn<'a> {
     /// How many rows the part has.
     pub(crate) fn len(&self) -> u32
         ensures len { result ≡ length self.now.cells }
-        ensures few { length self.now.cells ≤ 4194304 }
+        ensures few { length self.now.cells ≤ most_rows }
         ensures fit { All (λ cell. CellFits cell self.now.column.ty) self.now.cells }
     {
         self.rows

@@ -7,7 +7,7 @@ ghost use Rattle.fb_outside.specs.Names.{IsPath};
 ghost use Rattle.fb_outside.specs.Puts.{PutsInOrder};
 ghost use Rattle.part_meta.specs.CatalogText.{catalog_text};
 ghost use Rattle.part_meta.specs.FileNames.{catalog_name, part_name};
-ghost use Rattle.part_meta.specs.PartText.{part_text};
+ghost use Rattle.part_meta.specs.PartText.{part_text, most_rows};
 ghost use Rattle.world.specs.Effects.{new_part, new_parts, part_count};
 ghost use Rattle.world.specs.PartFiles.{columns_files, part_data, part_files};
 ghost use Rattle.dataset.specs.Opened.{catalog_in};
@@ -37,7 +37,7 @@ pub(crate) fn write_parts<S: Store, L: Ledger>(
 ) -> Result<(), Trouble>
     requires path { IsPath dir.now }
     requires some { 1 ≤ per_part }
-    requires few { per_part ≤ 4194304 }
+    requires few { per_part ≤ most_rows }
     requires numbers { next + part_count per_part (length columns.now.records) ≤ 4096 }
     ensures cause { HasCause (S.faults store.old) (S.faults store.new) (IsErrOf result Trouble.Failed) }
     ensures files { PutsInOrder (flat_map (part_files dir.now columns.now.schema) (new_parts next per_part columns.now.records)) result
@@ -65,7 +65,7 @@ fn write_part<S: Store, L: Ledger>(
 ) -> Result<(), Trouble>
     requires path { IsPath dir.now }
     requires number { meta.now.number < 4096 }
-    requires few { meta.now.rows ≤ 4194304 }
+    requires few { meta.now.rows ≤ most_rows }
     requires within { first + meta.now.rows ≤ length columns.now.records }
     requires small { first + meta.now.rows < 2 ^ 64 }
     requires schema { meta.now.schema ≡ columns.now.schema }
@@ -89,7 +89,7 @@ fn write_columns<S: Store, L: Ledger>(
 ) -> Result<(), Trouble>
     requires path { IsPath dir.now }
     requires number { meta.now.number < 4096 }
-    requires few { meta.now.rows ≤ 4194304 }
+    requires few { meta.now.rows ≤ most_rows }
     requires within { first + meta.now.rows ≤ length columns.now.records }
     requires small { first + meta.now.rows < 2 ^ 64 }
     ensures cause { HasCause (S.faults store.old) (S.faults store.new) (IsErrOf result Trouble.Failed) }

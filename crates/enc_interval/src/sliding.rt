@@ -5,6 +5,7 @@ ghost use Rattle.index_spec.specs.Members.{from_to};
 ghost use Rattle.binning.specs.Members.{AreBins};
 ghost use Rattle.binning.specs.Encodings.{vectors};
 ghost use Rattle.enc_interval.specs.Halves.{rows_from};
+ghost use Rattle.wah_words.specs.Limits.{most_bits};
 
 use binning::Bin;
 use std::alloc::{AllocError, Global};
@@ -39,7 +40,7 @@ pub(crate) fn sliding_unions<L: Ledger>(
     steps: &mut Steps<L>,
 ) -> Result<Vec<Wah>, AllocError>
     requires some { 0 < length bins.now }
-    requires limit { rows ≤ 4194304 }
+    requires limit { rows ≤ most_bits }
     requires long { All (λ b. length b.rows ≡ rows) bins.now }
     ensures { IfOk result (λ v. AreBins rows (vectors bins.now) → v.items ≡ map (rows_from rows (div_ceil (length bins.now) 2) (vectors bins.now)) (from_to 0 (length bins.now - div_ceil (length bins.now) 2 + 1))) }
 {

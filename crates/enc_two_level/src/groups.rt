@@ -5,6 +5,7 @@ ghost use Rattle.std.specs.Int.{div_ceil};
 ghost use Rattle.binning.specs.Members.{AreBins};
 ghost use Rattle.binning.specs.Encodings.{vectors};
 ghost use Rattle.enc_two_level.specs.Grouped.{group_rows};
+ghost use Rattle.wah_words.specs.Limits.{most_bits};
 
 use binning::Bin;
 use std::alloc::{AllocError, Global};
@@ -75,7 +76,7 @@ fn joined<L: Ledger>(
 ) -> Result<Bin, AllocError>
     requires some { begin < end }
     requires within { end ≤ length bins.now }
-    requires limit { rows ≤ 4194304 }
+    requires limit { rows ≤ most_bits }
     requires long { All (λ b. length b.rows ≡ rows) bins.now }
     ensures { IfOk result (λ b. b.rows ≡ union rows (vectors (take (end - begin) (drop begin bins.now)))) }
 {
@@ -97,7 +98,7 @@ pub(crate) fn grouped<L: Ledger>(
     steps: &mut Steps<L>,
 ) -> Result<Vec<Bin>, AllocError>
     requires some { 1 ≤ size }
-    requires limit { rows ≤ 4194304 }
+    requires limit { rows ≤ most_bits }
     requires few { length bins.now < 2 ^ 32 }
     requires long { All (λ b. length b.rows ≡ rows) bins.now }
     ensures number { IfOk result (λ v. length v.items ≡ div_ceil (length bins.now) size) }

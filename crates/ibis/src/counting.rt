@@ -13,6 +13,7 @@ ghost use Rattle.ibis.specs.Count.{CountGives, CountsRecords};
 ghost use Rattle.ibis.specs.Query.{read_query};
 ghost use Rattle.ibis.specs.Rows.{HasColumn, HasParts, cells_in_parts, passing};
 ghost use Rattle.ibis.specs.Steps.{StopsIn};
+ghost use Rattle.part_meta.specs.PartText.{most_rows};
 
 use crate::opening::{damaged, opened, stop_of_part};
 use crate::query::{Below, NameFault, bad_query, below_of, resolve, stop_of_text};
@@ -102,7 +103,7 @@ fn count_part<S: Store, L: Ledger>(
 ) -> Result<u64, Stop>
     requires path { IsPath dataset.now.dir }
     requires number { part.now.number < 4096 }
-    requires rows { part.now.rows ≤ 4194304 }
+    requires rows { part.now.rows ≤ most_rows }
     requires listed { (place : ℕ) × (slice_get dataset.now.parts place ≡ Some part.now) }
     requires in_schema { (col : ℕ) × (slice_get dataset.now.schema col ≡ Some column.now) }
     requires whole { IsSome (ends_of column.now.ty) }

@@ -7,6 +7,7 @@ ghost use Rattle.fb_types.specs.declared.cells.Cell.{Cell};
 ghost use Rattle.fb_types.specs.Types.{ends_of, width_of};
 ghost use Rattle.column_file.specs.Values.{width_in};
 ghost use Rattle.ibis.specs.Rows.{HasCells, HasValues, passing, smaller};
+ghost use Rattle.part_meta.specs.PartText.{most_rows};
 
 use crate::query::Below;
 use column_file::{ColFault, ColumnRef, MAX_ROWS_READ, read_rows};
@@ -33,7 +34,7 @@ pub(crate) fn count_rows<S: Store, L: Ledger>(
 ) -> Result<u64, RowsFault>
     requires whole { IsSome (ends_of column.now.ty) }
     requires mask { length column.now.mask ≡ column.now.rows }
-    requires few { column.now.rows ≤ 4194304 }
+    requires few { column.now.rows ≤ most_rows }
     ensures cause { HasCause (S.faults store.old) (S.faults store.new) (IsErrOf result RowsFault.Store) }
     ensures files { SameFiles (S.files store.old) (S.files store.new) }
     ensures few { IfOk result (λ hits. hits ≤ column.now.rows) }

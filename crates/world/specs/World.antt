@@ -10,6 +10,7 @@ use Rattle.fb_types.specs.declared.schemas.Column.{Column}
 use Rattle.fb_types.specs.Cells.{RecordFits}
 use Rattle.part_meta.specs.declared.catalog.Catalog.{Catalog}
 use Rattle.part_meta.specs.CatalogText.{IsCatalog}
+use Rattle.part_meta.specs.PartText.{most_rows}
 
 -- a part of a dataset: its number and its records
 pub record Partition : Type 0 where
@@ -44,7 +45,7 @@ no_datasets inputs = record { datasets = empty; inputs = inputs }
 -- 1 to 4,194,304 records that fit the schema
 pub record IsPartition (schema : List Column) (part : Partition) : Type 0 where
   pub some : 1 ≤ length part.records
-  pub few : length part.records ≤ 4194304
+  pub few : length part.records ≤ most_rows
   pub fit : All (λ cells. RecordFits cells schema) part.records
 
 -- what a dataset's catalog says

@@ -17,6 +17,7 @@ ghost use Rattle.world.specs.World.{Content, IsContent, Partition, World, conten
 ghost use Rattle.world.specs.PartFiles.{column_files, part_files};
 ghost use Rattle.world.specs.Stands.{IsFree, IsInputName, Stands};
 ghost use Rattle.world.specs.Effects.{Effect, Loads, after, after_one, empty_content, extended, found_or_empty, new_parts, part_count, piece};
+ghost use Rattle.part_meta.specs.PartText.{most_rows};
 
 /// Files among which every path is free stand for the world without datasets.
 pub fn files_without_datasets()
@@ -124,7 +125,7 @@ pub fn the_effect_of_a_load()
 /// A dataset that grows by a load keeps what every dataset is, and has its old records and then the load's.
 pub fn the_content_after_a_load()
     ensures valid { (content : Content) (per_part : ℕ) (records : List (List Cell))
-        → IsContent content → 1 ≤ per_part → per_part ≤ 4194304
+        → IsContent content → 1 ≤ per_part → per_part ≤ most_rows
         → All (λ cells. RecordFits cells content.schema) records
         → content.next + part_count per_part (length records) ≤ 4096
         → length content.parts + part_count per_part (length records) ≤ 1024

@@ -13,7 +13,7 @@ use statuses::Status;
 use std::alloc::{AllocError, Global};
 
 /// Prints the line of a refusal, which is the command's status unless printing fails.
-pub(crate) fn refuse<K: Sink>(alloc: Global, out: &mut K, status: Status) -> Status
+pub fn refuse<K: Sink>(alloc: Global, out: &mut K, status: Status) -> Status
     requires { is_fault status ≡ false }
     ensures cause { HasCause (K.faults out.old) (K.faults out.new) (result ≡ Status.SinkFault) }
     ensures prints { Prints status (line_of status) (K.written out.old) (K.written out.new) result }

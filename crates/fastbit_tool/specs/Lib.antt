@@ -1,1 +1,3 @@
 pub mod Completes
+pub mod Requests
+pub mod Session

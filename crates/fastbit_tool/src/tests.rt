@@ -327,11 +327,11 @@ fn names_each_damaged_file(rt: HostRuntime) -> Result<(), Fail> {
 #[test]
 fn each_put_of_a_load_fails_in_turn(rt: HostRuntime) -> Result<(), Fail> {
     for (call, keep_new, hits) in [
-        (6, false, "hits 1\n"),
-        (7, true, "hits 1\n"),
-        (8, false, "hits 1\n"),
         (9, false, "hits 1\n"),
-        (9, true, "hits 2\n"),
+        (10, true, "hits 1\n"),
+        (11, false, "hits 1\n"),
+        (12, false, "hits 1\n"),
+        (12, true, "hits 2\n"),
     ] {
         let mut store = MemStore::make(rt.alloc(), &[FailAt { call, keep_new }], 0)?;
         expect_load(&rt, &mut store, LOAD, "1\n", 0, "loaded 1 rows\n")?;
@@ -357,5 +357,45 @@ fn a_failing_input_or_output_has_its_status(rt: HostRuntime) -> Result<(), Fail>
         ..make_case(&["ibis", "-d", "D", "-l"], b"", 12, "")
     };
     expect(&rt, &mut store, &unprinted)?;
+    Ok(())
+}
+
+const LINES: &str = "# a load and questions\nardea -d D -m a:int -t n.csv\r\n\n  \t\nibis -d D -q 'where a < 5'\nfrob\n\
+ardea -d D -m a:int\nibis -d D -q 'where a <\nibis -d E -l\nsession\nibis -l -d D";
+
+const REPLIES: &str = "loaded 3 rows\nhits 1\nerror 1 usage\nerror 1 usage\nerror 1 usage\nerror 7 missing E/-catalog.txt\nerror 1 usage\n\
+schema a:int\npart 0 rows 3\n";
+
+#[test]
+fn a_session_goes_on_behind_a_refusal(rt: HostRuntime) -> Result<(), Fail> {
+    let mut store = MemStore::make(rt.alloc(), &[], 0)?;
+    keep(&rt, &mut store, "n.csv", b"3\n\"\"\n5\n")?;
+    expect_load(&rt, &mut store, &["session"], LINES, 0, REPLIES)?;
+    expect_load(&rt, &mut store, &["session"], "", 0, "")?;
+    let quoted = "ibis -d 'D' -q 'where 'a' < 4'\n";
+    expect_load(&rt, &mut store, &["session"], quoted, 0, "hits 1\n")?;
+    expect_load(&rt, &mut store, &["session", "x"], "", 1, "error 1 usage\n")?;
+    Ok(())
+}
+
+#[test]
+fn a_fault_ends_a_session(rt: HostRuntime) -> Result<(), Fail> {
+    let mut store = MemStore::make(rt.alloc(), &[], 0)?;
+    keep(&rt, &mut store, "n.csv", b"3\n4\n")?;
+    let lines = b"ardea -d D -m a:int -t n.csv\nibis -d D -l\nibis -d D -q 'where a < 5'\n";
+    let unprinted = Case {
+        sink_fails: &[1],
+        ..make_case(&["session"], lines, 12, "loaded 2 rows\n")
+    };
+    expect(&rt, &mut store, &unprinted)?;
+    let unread = Case {
+        source_fails: &[0],
+        ..make_case(&["session"], lines, 10, "")
+    };
+    expect(&rt, &mut store, &unread)?;
+    let mut bytes = Vec::new(rt.alloc());
+    bytes.resize(16_777_217, b'#')?;
+    let long = "error 9 limit session 16777217 over 16777216\n";
+    expect(&rt, &mut store, &make_case(&["session"], &bytes, 9, long))?;
     Ok(())
 }

@@ -1,0 +1,172 @@
+-- From how a session ran to what is said of the call.
+use Rattle.std.proofs.Common.{◌≡◌, ◌≢◌, ◌⊎◌, inl, inr, ℕ, Bool, true, false, List, Option, Some, None, IfSome, refl, sym, ap, subst, ◌∙◌, arith}
+use Rattle.fb_outside.specs.Files.{ChangesAmong, Files, SameFiles}
+use Rattle.fb_outside.specs.Streams.{ForSomeInput}
+use Rattle.fb_outside.proofs.FileLemmas.{ChangesAmong-same}
+use Rattle.world.specs.World.{World}
+use Rattle.world.specs.Stands.{StandsFor}
+use Rattle.world.specs.Effects.{Effect}
+use Rattle.statuses.specs.declared.Status.{Status}
+use Rattle.statuses.specs.declared.Status.TheVariants.{Done, Usage, BadSchema, BadInput, SchemaDiffers, BadQuery, NoDataset, Damaged, Limit, ReadFault, StoreFault, SinkFault, OutOfMemory}
+use Rattle.statuses.specs.Outcome.{Outcome, refused}
+use Rattle.commands.specs.Command.{command_outcome}
+use Rattle.commands.specs.Causes.{HasCauseIn, Printed, Says, SaysBy, is_silent}
+use Rattle.commands.specs.Effects.{LeavesAfter}
+use Rattle.commands.specs.Reply.{Replies, RepliesBy, is_fault}
+use Rattle.commands.proofs.PrintLemmas.{Replies-quiet, quiet_leaves, quiet_replies, some_input, some_told}
+use Rattle.fastbit_tool.specs.Requests.{IsOfAsked, OfSession, Refuses, Runs, SessionComesBy, SessionComesTo, SessionRuns, Unread}
+use Rattle.fastbit_tool.specs.Session.{LinesRun, is_long, lines_of, lines_outcome, nothing, session_outcome, too_long}
+use Rattle.fastbit_tool.proofs.LinesLemmas.{in_full, leaves_nothing, lines_end, lines_keep, lines_leave, lines_reply}
+
+-- a silent end is a fault
+silent_fault : (status : Status) → is_silent status ≡ true → is_fault status ≡ true
+silent_fault ReadFault e = refl
+silent_fault StoreFault e = refl
+silent_fault OutOfMemory e = refl
+silent_fault SinkFault e = refl
+silent_fault Done e = absurd (cc)
+silent_fault Usage e = absurd (cc)
+silent_fault (BadSchema column kind) e = absurd (cc)
+silent_fault (BadInput number field kind) e = absurd (cc)
+silent_fault (SchemaDiffers column) e = absurd (cc)
+silent_fault (BadQuery kind) e = absurd (cc)
+silent_fault (NoDataset file) e = absurd (cc)
+silent_fault (Damaged file kind want have) e = absurd (cc)
+silent_fault (Limit what number limit) e = absurd (cc)
+
+-- ---- a session that is refused
+
+module _ (reply : Outcome) (status : Status) (before now : Option (List ℕ)) where
+  replied_by : (b : Bool) → is_silent status ≡ b → SaysBy b (λ r. r ≡ reply) status before now → Replies reply status before now
+  replied_by true silent same = Replies-quiet reply status before now (silent_fault status silent) same
+  replied_by false loud said = subst (λ (r : Outcome). Replies r status before now) said.come said.replies
+
+  replied : Says (λ r. r ≡ reply) status before now → Replies reply status before now
+  replied says = replied_by (is_silent status) refl says
+
+ended_by : (reply : Outcome) (status : Status) (before now : Option (List ℕ)) (b : Bool) → is_fault status ≡ b → Replies reply status before now
+    → (is_fault status ≡ true) ⊎ (status ≡ reply.status)
+ended_by reply status before now true fault h = inl fault
+ended_by reply status before now false plain h = inr (in_full reply status before now plain h).0
+
+-- a status without a fault, or with one
+either : (status : Status) → (is_fault status ≡ true) ⊎ (is_fault status ≡ false)
+either status = by (is_fault status) refl
+  where
+    by : (b : Bool) → is_fault status ≡ b → (is_fault status ≡ true) ⊎ (is_fault status ≡ false)
+    by true e = inl e
+    by false e = inr e
+
+read_fault : (status : Status) → (status ≡ ReadFault) ⊎ (status ≡ OutOfMemory) → is_fault status ≡ true
+read_fault status (inl is) = ap is_fault is
+read_fault status (inr is) = ap is_fault is
+
+refused_outcome : (input : List ℕ) (w : World) → is_long input ≡ true → session_outcome input w ≡ refused too_long
+refused_outcome input w long = rw long refl
+
+run_outcome : (input : List ℕ) (w : World) → is_long input ≡ false → session_outcome input w ≡ lines_outcome (lines_of input) w
+run_outcome input w short = rw short refl
+
+module _ (left : Option (List ℕ)) (old new : Option Files) (before now : Option (List ℕ)) (status : Status) where
+  pub session_replies : SessionRuns left old new before now status
+      → ForSomeInput left (λ bytes. (w : World) → StandsFor old w → Replies (session_outcome bytes w) status before now)
+  session_replies (Refuses long same says) =
+      record {
+        input = long.input;
+        told = long.told;
+        holds = λ w stands.
+            subst (λ (o : Outcome). Replies o status before now) (sym (refused_outcome long.input w long.holds)) (replied (refused too_long) status before now says);
+      }
+  session_replies (Unread same written is) =
+      record {
+        input = some_input left;
+        told = some_told left;
+        holds = λ w stands. Replies-quiet (session_outcome (some_input left) w) status before now (read_fault status is) written;
+      }
+  session_replies (Runs end at_end lines) =
+      record {
+        input = lines.input;
+        told = lines.told;
+        holds = λ w stands.
+            subst (λ (o : Outcome). Replies o status before now) (sym (run_outcome lines.input w lines.holds.0))
+            (lines_reply (lines_of lines.input) end old new before now status lines.holds.1 w stands);
+      }
+
+  same_leaves : (effects : List Effect) (w : World) → SameFiles old new → StandsFor old w → is_fault status ≡ true → LeavesAfter effects w status new
+  same_leaves effects w same stands fault =
+      record {
+        count = 0;
+        within = omega arith;
+        stands = subst (λ (f : Option Files). StandsFor f w) (sym same) stands;
+        all = λ plain. let bad : true ≡ false = sym fault ∙ plain in absurd (cc);
+        none = λ e. refl;
+      }
+
+  pub session_leaves : SessionRuns left old new before now status
+      → ForSomeInput left (λ bytes. (w : World) → StandsFor old w → LeavesAfter (session_outcome bytes w).effects w status new)
+  session_leaves (Refuses long same says) =
+      record {
+        input = long.input;
+        told = long.told;
+        holds = λ w stands.
+            subst (λ (o : Outcome). LeavesAfter o.effects w status new) (sym (refused_outcome long.input w long.holds)) (leaves_nothing w status old new stands same);
+      }
+  session_leaves (Unread same written is) =
+      record {
+        input = some_input left;
+        told = some_told left;
+        holds = λ w stands. same_leaves (session_outcome (some_input left) w).effects w same stands (read_fault status is);
+      }
+  session_leaves (Runs end at_end lines) =
+      record {
+        input = lines.input;
+        told = lines.told;
+        holds = λ w stands.
+            subst (λ (o : Outcome). LeavesAfter o.effects w status new) (sym (run_outcome lines.input w lines.holds.0))
+            (lines_leave (lines_of lines.input) end old new before now status lines.holds.1 w stands);
+      }
+
+  pub session_keeps : SessionRuns left old new before now status → ForSomeInput left (λ bytes. ChangesAmong (IsOfAsked OfSession bytes) old new)
+  session_keeps (Refuses long same says) = record { input = long.input; told = long.told; holds = ChangesAmong-same old new same }
+  session_keeps (Unread same written is) = record { input = some_input left; told = some_told left; holds = ChangesAmong-same old new same }
+  session_keeps (Runs end at_end lines) =
+      record { input = lines.input; told = lines.told; holds = lines_keep (lines_of lines.input) end old new before now status lines.holds.1 }
+
+  pub session_refused : SessionRuns left old new before now status → is_fault status ≡ false → status ≢ Done → SameFiles old new
+  session_refused (Refuses long same says) plain other = same
+  session_refused (Unread same written is) plain other = same
+  session_refused (Runs end at_end lines) plain other =
+      absurd (other (lines_end (lines_of lines.input) end old new before now status lines.holds.1 plain))
+
+  refused_cause : (long : ForSomeInput left (λ input. is_long input ≡ true)) → (is_fault status ≡ true) ⊎ (status ≡ too_long)
+      → HasCauseIn (SessionComesTo left) status
+  refused_cause long (inl fault) = inl fault
+  refused_cause long (inr is) =
+      let long_is = long.holds in
+      inr (record {
+        reply = refused too_long;
+        come = record { input = long.input; told = long.told; holds = subst (λ (b : Bool). SessionComesBy b (refused too_long)) (sym long_is) refl };
+        is = is;
+      })
+
+  lines_cause : (input : List ℕ) → IfSome left (λ bytes. bytes ≡ input) → is_long input ≡ false → (is_fault status ≡ true) ⊎ (status ≡ Done)
+      → HasCauseIn (SessionComesTo left) status
+  lines_cause input told short (inl fault) = inl fault
+  lines_cause input told short (inr is) =
+      inr (record {
+        reply = nothing;
+        come = record { input = input; told = told; holds = subst (λ (b : Bool). SessionComesBy b nothing) (sym short) refl };
+        is = is;
+      })
+
+  done_or : (end : Option (List ℕ)) (lines : List (List ℕ)) → LinesRun lines end old new before now status
+      → (is_fault status ≡ true) ⊎ (is_fault status ≡ false) → (is_fault status ≡ true) ⊎ (status ≡ Done)
+  done_or end lines run (inl fault) = inl fault
+  done_or end lines run (inr plain) = inr (lines_end lines end old new before now status run plain)
+
+  pub session_cause : SessionRuns left old new before now status → HasCauseIn (SessionComesTo left) status
+  session_cause (Refuses long same says) =
+      refused_cause long (ended_by (refused too_long) status before now (is_fault status) refl (replied (refused too_long) status before now says))
+  session_cause (Unread same written is) = inl (read_fault status is)
+  session_cause (Runs end at_end lines) =
+      lines_cause lines.input lines.told lines.holds.0 (done_or end (lines_of lines.input) lines.holds.1 (either status))

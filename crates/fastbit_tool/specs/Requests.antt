@@ -1,0 +1,90 @@
+-- What `run` does for a request: a session, or one command.
+use Rattle.std.specs.Prelude.{◌≡◌, ◌⊎◌, ⊤, ℕ, Bool, true, false, List, [], ◌∷◌, Option, Some, None, if◌then◌else◌}
+use Rattle.fb_outside.specs.Files.{Files, SameFiles}
+use Rattle.fb_outside.specs.Streams.{ForSomeInput, IsAtEnd}
+use Rattle.command_words.specs.declared.Job.{Job}
+use Rattle.command_words.specs.declared.Job.TheVariants.{Ardea, Gen, Ibis, Session}
+use Rattle.world.specs.World.{World}
+use Rattle.statuses.specs.declared.Status.{Status}
+use Rattle.statuses.specs.declared.Status.TheVariants.{Done, ReadFault, OutOfMemory}
+use Rattle.statuses.specs.Outcome.{Outcome, refused}
+use Rattle.commands.specs.Command.{Command, command_of, command_outcome}
+use Rattle.commands.specs.Causes.{ComesTo, Says}
+use Rattle.commands.specs.Effects.{IsOfCommand}
+use Rattle.commands.specs.Order.{Yields}
+use Rattle.commands.specs.Order as order
+use Rattle.fastbit_tool.specs.Session.{LinesRun, is_long, line_command, lines_of, session_outcome, too_long}
+
+-- a session, or a command by itself
+pub data Asked : Type 0 where
+  OfSession : Asked
+  Of : (command : Command) → Asked
+
+abbrev pub is_session : Option Job → Bool
+is_session None = false
+is_session (Some (Ardea load)) = false
+is_session (Some (Ibis dir task)) = false
+is_session (Some Session) = true
+is_session (Some (Gen rows seed)) = false
+
+abbrev pub asked_of : Option Job → Asked
+asked_of asked = if is_session asked then OfSession else Of (command_of asked)
+
+-- what it answers and does in a world, with this input
+abbrev pub outcome : Asked → List ℕ → World → Outcome
+outcome OfSession input world = session_outcome input world
+outcome (Of command) input world = command_outcome command input world
+
+-- whether it takes from the input
+abbrev pub takes_input : Asked → Bool
+takes_input OfSession = true
+takes_input (Of command) = order.takes_input command
+
+-- ---- which files it may change
+
+-- a file of the command of this line
+abbrev pub IsOfLineBy : Option Command → List ℕ → Type 0
+IsOfLineBy None name = ⊥
+IsOfLineBy (Some command) name = IsOfCommand command name
+
+-- a file of the command of some of these
+abbrev pub IsOfLines : List (List ℕ) → List ℕ → Type 0
+IsOfLines [] name = ⊥
+IsOfLines (line ∷ lines) name = IsOfLineBy (line_command line) name ⊎ IsOfLines lines name
+
+abbrev pub IsOfAsked : Asked → List ℕ → List ℕ → Type 0
+IsOfAsked OfSession input name = IsOfLines (lines_of input) name
+IsOfAsked (Of command) input name = IsOfCommand command name
+
+-- ---- what it comes to over any files, and what is printed
+
+abbrev pub SessionComesBy : Bool → Outcome → Type 0
+SessionComesBy true reply = reply ≡ refused too_long
+SessionComesBy false reply = reply.status ≡ Done
+
+-- a session is refused exactly where its input is too long
+abbrev pub SessionComesTo : Option (List ℕ) → Outcome → Type 0
+SessionComesTo left reply = ForSomeInput left (λ input. SessionComesBy (is_long input) reply)
+
+abbrev pub AskedComesTo : Asked → Option (List ℕ) → Option Files → Outcome → Type 0
+AskedComesTo OfSession left files reply = SessionComesTo left reply
+AskedComesTo (Of command) left files reply = ComesTo command left files reply
+
+-- A session ended before it ran a line, or ran those of its input, behind which nothing was left of it.
+pub data SessionRuns (left : Option (List ℕ)) (old new : Option Files) (before now : Option (List ℕ)) (status : Status) : Type 0 where
+  Refuses : ForSomeInput left (λ input. is_long input ≡ true) → SameFiles old new → Says (λ reply. reply ≡ refused too_long) status before now
+      → SessionRuns left old new before now status
+  Unread : SameFiles old new → now ≡ before → (status ≡ ReadFault) ⊎ (status ≡ OutOfMemory) → SessionRuns left old new before now status
+  Runs : (end : Option (List ℕ)) → IsAtEnd end
+      → ForSomeInput left (λ input. (is_long input ≡ false) × LinesRun (lines_of input) end old new before now status)
+      → SessionRuns left old new before now status
+
+-- what is printed: by a session line by line
+abbrev pub AskedRuns : Asked → Option (List ℕ) → Option Files → Option Files → Option (List ℕ) → Option (List ℕ) → Status → Type 0
+AskedRuns OfSession left old new before now status = SessionRuns left old new before now status
+AskedRuns (Of command) left old new before now status = Says (ComesTo command left old) status before now
+
+-- a failure of the outside yields to each refusal that stands before it; a session's lines say it each for itself
+abbrev pub AskedYields : Asked → Option (List ℕ) → Status → Type 0
+AskedYields OfSession left status = ⊤
+AskedYields (Of command) left status = Yields command left status

@@ -30,3 +30,6 @@ returns-in-None-clause-read_cause g c =
 pub returns-in-None-clause-end : goal.returns-in-None-clause-end
 returns-in-None-clause-end g c =
     λ takes. call_end c.args.asked.now Unknown (ap command_of c.in-None.is) (g.I.Source.left c.args.input.now) (g.S.Store.files c.args.store.now) _ _ c.refuse.result (usage_runs (g.I.Source.left c.args.input.now) (g.S.Store.files c.args.store.now) _ _ c.refuse.result c.refuse.ensures.prints) unknown_question takes
+
+pub returns-in-Some-clause-effects : goal.returns-in-Some-clause-effects
+returns-in-Some-clause-effects g c = rw c.in-Some.is c.run_job.ensures.effects

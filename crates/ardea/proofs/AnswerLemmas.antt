@@ -48,7 +48,7 @@ StopsBy-store P I S stop e h = subst (StopsBy P I S) e h
 -- ---- the input
 
 -- bytes that were taken to the end are all that was left
-all_taken : (old new : Option (List ℕ)) (bytes : List ℕ) → Takes old new bytes → IsAtEnd new → IfSome old (λ all. all ≡ bytes)
+pub all_taken : (old new : Option (List ℕ)) (bytes : List ℕ) → Takes old new bytes → IsAtEnd new → IfSome old (λ all. all ≡ bytes)
 all_taken None new bytes taken end = tt
 all_taken (Some all) None bytes taken end = absurd (cc)
 all_taken (Some all) (Some rest) bytes taken end =
@@ -57,7 +57,7 @@ all_taken (Some all) (Some rest) bytes taken end =
     is ∙ none
 
 -- bytes that came are no more than all that was left
-came_short : (old new : Option (List ℕ)) (bytes : List ℕ) (n : ℕ) → Takes old new bytes → n < length bytes → IfSome old (λ all. n < length all)
+pub came_short : (old new : Option (List ℕ)) (bytes : List ℕ) (n : ℕ) → Takes old new bytes → n < length bytes → IfSome old (λ all. n < length all)
 came_short None new bytes n taken more = tt
 came_short (Some all) None bytes n taken more = absurd (cc)
 came_short (Some all) (Some rest) bytes n taken more =

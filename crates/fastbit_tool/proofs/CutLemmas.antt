@@ -26,7 +26,7 @@ feed_line text at h feed =
     let room : at + prefix_len is_plain (drop at text) + 1 ≤ length text = omega (arith, length-drop at text) in
     let first = slice_split_first is_feed (drop at text) 0 feed in
     let behind : drop (prefix_len is_plain (drop at text) + 1) (drop at text) ≡ drop (at + prefix_len is_plain (drop at text) + 1) text =
-        drop-drop (prefix_len is_plain (drop at text) + 1) at text ∙ ap (λ n. drop n text) (omega arith) in
+    drop-drop (prefix_len is_plain (drop at text) + 1) at text ∙ ap (λ n. drop n text) (omega arith) in
     rw (le-leb at (length text) h, le-leb (at + prefix_len is_plain (drop at text) + 1) (length text) room)
     (first ∙ ap (λ l. take (prefix_len is_plain (drop at text)) (drop at text) ∷ slice_split is_feed l) behind)
 
@@ -47,7 +47,7 @@ by_place text at h (inr last) = end_line text at h last
 
 pub line_cut : (text : List ℕ) (at : ℕ) → at ≤ length text
     → lines_from text at ≡ take (prefix_len is_plain (drop at text)) (drop at text)
-        ∷ lines_from text (at + length (take (prefix_len is_plain (drop at text)) (drop at text)) + 1)
+    ∷ lines_from text (at + length (take (prefix_len is_plain (drop at text)) (drop at text)) + 1)
 line_cut text at h =
     let length_is = length-prefix_len is_plain (drop at text) in
     by_place text at h (cases_lt (prefix_len is_plain (drop at text)) (length (drop at text)))

@@ -5,7 +5,8 @@ use Rattle.command_words.specs.declared.Job.TheVariants.{Ardea, Gen, Ibis, Sessi
 use Rattle.command_words.specs.declared.Load.{Load}
 use Rattle.command_words.specs.declared.Task.TheVariants as task
 use Rattle.world.specs.World.{World}
-use Rattle.ardea.specs.Load.{Reading, load_outcome, load_result, load_table, text_or_refusal}
+use Rattle.std.specs.FinMap.{get}
+use Rattle.ardea.specs.Load.{Reading, load_outcome, load_result, load_table, reading_of, text_or_refusal}
 use Rattle.ardea.specs.Order.{takes_by}
 use Rattle.commands.specs.Command.{command_of, command_outcome}
 use Rattle.commands.specs.Order.{takes_input}
@@ -44,7 +45,7 @@ table_free load a b readings h = let e = text_free load.file a b readings h in r
 
 outcome_free : (load : Load) (a b : List ℕ) (w : World) → is_some load.file ≡ true → load_outcome load a w ≡ load_outcome load b w
 unfolding load_result
-outcome_free load a b w h = let e = table_free load a b _ h in rw e
+outcome_free load a b w h = let e = table_free load a b (λ name. reading_of (get w.inputs name)) h in rw e
 
 pub input_free : (asked : Option Job) → in_session asked ≡ asked → (a b : List ℕ) (w : World)
     → command_outcome (command_of asked) a w ≡ command_outcome (command_of asked) b w

@@ -100,7 +100,7 @@ pub leaves_behind : (es more : List Effect) (w : World) (status : Status) (new :
 leaves_behind es more w status new unread h =
     let front : take (length es + h.count) (es ++ more) ≡ es ++ take h.count more = take-append-add es more h.count in
     let world : after w (take (length es + h.count) (es ++ more)) ≡ after (after w es) (take h.count more) =
-        ap (after w) front ∙ after-append w es (take h.count more) in
+    ap (after w) front ∙ after-append w es (take h.count more) in
     record {
       count = length es + h.count;
       within = omega (arith, h.within, length-append es more);
@@ -153,7 +153,7 @@ lines_reply (line ∷ lines) left old new before now status (inl stops) w stands
     (replies_by left old new before now status (line_command line) stops.runs w stands)
 lines_reply (line ∷ lines) left old new before now status (inr goes) w stands =
     let full = in_full (line_outcome line w) goes.status before goes.written goes.fine
-        (replies_by left old goes.files before goes.written goes.status (line_command line) goes.runs w stands) in
+    (replies_by left old goes.files before goes.written goes.status (line_command line) goes.runs w stands) in
     let leaves = leaves_by left old goes.files before goes.written goes.status (line_command line) goes.runs w stands in
     let there = stands_after (line_outcome line w).effects w goes.status goes.files goes.fine leaves in
     Replies-behind (line_outcome line w) (lines_outcome lines (after w (line_outcome line w).effects)) status before goes.written now

@@ -1,11 +1,15 @@
 -- From how a session ran to what is said of the call.
-use Rattle.std.proofs.Common.{◌≡◌, ◌≢◌, ◌⊎◌, inl, inr, ℕ, Bool, true, false, List, Option, Some, None, IfSome, refl, sym, ap, subst, ◌∙◌, arith}
+use Rattle.std.proofs.Common.{◌≡◌, ◌≢◌, ◌⊎◌, inl, inr, ℕ, ◌+◌, ◌<◌, ◌≤◌, Bool, true, false, List, length, Option, Some, None, IfSome, refl, sym, ap, subst, ◌∙◌, arith}
+use Rattle.std.proofs.lemmas.Bool.{le-leb, lt-leb}
 use Rattle.fb_outside.specs.Files.{ChangesAmong, Files, SameFiles}
-use Rattle.fb_outside.specs.Streams.{ForSomeInput}
+use Rattle.fb_outside.specs.Streams.{ForSomeInput, IsAtEnd, Takes}
 use Rattle.fb_outside.proofs.FileLemmas.{ChangesAmong-same}
+use Rattle.csv_load.specs.Input.{TakesSome}
 use Rattle.world.specs.World.{World}
 use Rattle.world.specs.Stands.{StandsFor}
 use Rattle.world.specs.Effects.{Effect}
+use Rattle.statuses.specs.declared.LimitKind.TheVariants as limit
+use Rattle.statuses.specs.Lines.{line_of}
 use Rattle.statuses.specs.declared.Status.{Status}
 use Rattle.statuses.specs.declared.Status.TheVariants.{Done, Usage, BadSchema, BadInput, SchemaDiffers, BadQuery, NoDataset, Damaged, Limit, ReadFault, StoreFault, SinkFault, OutOfMemory}
 use Rattle.statuses.specs.Outcome.{Outcome, refused}
@@ -13,9 +17,11 @@ use Rattle.commands.specs.Command.{command_outcome}
 use Rattle.commands.specs.Causes.{HasCauseIn, Printed, Says, SaysBy, is_silent}
 use Rattle.commands.specs.Effects.{LeavesAfter}
 use Rattle.commands.specs.Reply.{Replies, RepliesBy, is_fault}
-use Rattle.commands.proofs.PrintLemmas.{Replies-quiet, quiet_leaves, quiet_replies, some_input, some_told}
+use Rattle.commands.specs.Runs.{Prints}
+use Rattle.commands.proofs.PrintLemmas.{Replies-quiet, says_printed, some_input, some_told}
+use Rattle.ardea.proofs.AnswerLemmas.{all_taken, came_short}
 use Rattle.fastbit_tool.specs.Requests.{IsOfAsked, OfSession, Refuses, Runs, SessionComesBy, SessionComesTo, SessionRuns, Unread}
-use Rattle.fastbit_tool.specs.Session.{LinesRun, is_long, lines_of, lines_outcome, nothing, session_outcome, too_long}
+use Rattle.fastbit_tool.specs.Session.{LinesRun, is_long, lines_of, lines_outcome, most_session_bytes, nothing, session_outcome, too_long}
 use Rattle.fastbit_tool.proofs.LinesLemmas.{in_full, leaves_nothing, lines_end, lines_keep, lines_leave, lines_reply}
 
 -- a silent end is a fault
@@ -170,3 +176,33 @@ module _ (left : Option (List ℕ)) (old new : Option Files) (before now : Optio
   session_cause (Unread same written is) = inl (read_fault status is)
   session_cause (Runs end at_end lines) =
       lines_cause lines.input lines.told lines.holds.0 (done_or end (lines_of lines.input) lines.holds.1 (either status))
+
+-- ---- reading its input
+
+-- all of it was read, and its lines ran
+pub session_ran : (left mid : Option (List ℕ)) (bytes : List ℕ) (old new : Option Files) (before now : Option (List ℕ)) (status : Status)
+    → Takes left mid bytes → IsAtEnd mid → length bytes ≤ most_session_bytes → LinesRun (lines_of bytes) mid old new before now status
+    → SessionRuns left old new before now status
+session_ran left mid bytes old new before now status taken end within runs =
+    let short : is_long bytes ≡ false = lt-leb (most_session_bytes + 1) (length bytes) (omega arith) in
+    Runs mid end (record { input = bytes; told = all_taken left mid bytes taken end; holds = (short, runs) })
+
+long_input : (left mid : Option (List ℕ)) (bytes : List ℕ) → Takes left mid bytes → most_session_bytes < length bytes
+    → ForSomeInput left (λ input. is_long input ≡ true)
+long_input None mid bytes taken more =
+    record { input = bytes; told = tt; holds = le-leb (most_session_bytes + 1) (length bytes) (omega arith) }
+long_input (Some all) mid bytes taken more =
+    let longer : most_session_bytes < length all = came_short (Some all) mid bytes most_session_bytes taken more in
+    record { input = all; told = refl; holds = le-leb (most_session_bytes + 1) (length all) (omega arith) }
+
+-- more came than the limit, and this was printed
+pub session_long : (left mid : Option (List ℕ)) (files : Option Files) (before now : Option (List ℕ)) (status refusal : Status) (told block : ℕ)
+    → (told ≡ most_session_bytes) × TakesSome left mid (λ n. (most_session_bytes < n) × (n ≤ most_session_bytes + block))
+    → refusal ≡ Limit limit.Session (told + 1) told → Prints refusal (line_of refusal) before now status
+    → SessionRuns left files files before now status
+session_long left mid files before now status refusal told block h is prints =
+    let limit_is = h.0 in
+    let same : refusal ≡ too_long = is ∙ ap (λ n. Limit limit.Session (n + 1) n) limit_is in
+    Refuses (long_input left mid h.1.came h.1.taken h.1.count.0) refl
+    (says_printed (λ reply. reply ≡ refused too_long) (refused too_long) status before now refl refl
+    (subst (λ (s : Status). Prints s (line_of s) before now status) same prints))

@@ -360,10 +360,12 @@ fn a_failing_input_or_output_has_its_status(rt: HostRuntime) -> Result<(), Fail>
     Ok(())
 }
 
-const LINES: &str = "# a load and questions\nardea -d D -m a:int -t n.csv\r\n\n  \t\nibis -d D -q 'where a < 5'\nfrob\n\
+const LINES: &str =
+    "# a load and questions\nardea -d D -m a:int -t n.csv\r\n\n  \t\nibis -d D -q 'where a < 5'\nfrob\n\
 ardea -d D -m a:int\nibis -d D -q 'where a <\nibis -d E -l\nsession\nibis -l -d D";
 
-const REPLIES: &str = "loaded 3 rows\nhits 1\nerror 1 usage\nerror 1 usage\nerror 1 usage\nerror 7 missing E/-catalog.txt\nerror 1 usage\n\
+const REPLIES: &str =
+    "loaded 3 rows\nhits 1\nerror 1 usage\nerror 1 usage\nerror 1 usage\nerror 7 missing E/-catalog.txt\nerror 1 usage\n\
 schema a:int\npart 0 rows 3\n";
 
 #[test]

@@ -124,7 +124,7 @@ fn first_run(word: u32) -> (u32, u32)
     ensures run { IsFirstRun word result.0 result.1 }
 {
     let above = word.leading_zeros();
-    let below = ((1 << (32 - above)) - 1 - word).leading_zeros();
+    let below = ((u32::MAX >> above) - word).leading_zeros();
     (above, below)
 }
 

@@ -4,6 +4,7 @@ use Rattle.std.specs.List.{AllByRecursion, fold, filter}
 use Rattle.std.specs.Int.{int_min, int_max}
 use Rattle.std.specs.Ordering.{int_eq}
 use Rattle.std.proofs.lemmas.Bool.Decides.{nat_tests}
+use Rattle.wah_words.specs.Limits.{most_bits}
 use Rattle.binning.specs.Keys.{key}
 use Rattle.binning.specs.Bins.{present, values_with, least_of, greatest_of, has_key, rows_with, bin_of, bins_of}
 use Rattle.binning.specs.BinFor.{bin_for, no_group}
@@ -207,7 +208,7 @@ place_get q (x ∷ ks) d h =
     (λ t. rw t (sym (eq_from q x t)))
     (λ f. rw f (place_get q ks d (let s : place_in q (x ∷ ks) ≡ suc (place_in q ks) = rw f refl in omega arith)))
 
-has_place : (keys : Keying) (ks : List ℤ) (place : ℕ) (k d : ℤ) → AreDistinct ks → place < length ks → get_or ks place d ≡ k → length ks ≤ 4194304 → (c : Option ℤ) → eqb (place_of keys ks c) place ≡ has_key keys k c
+has_place : (keys : Keying) (ks : List ℤ) (place : ℕ) (k d : ℤ) → AreDistinct ks → place < length ks → get_or ks place d ≡ k → length ks ≤ most_bits → (c : Option ℤ) → eqb (place_of keys ks c) place ≡ has_key keys k c
 has_place keys ks place k d apart within e few None = far 4294967295 place (omega arith)
   where
     far : (a b : ℕ) → b < a → eqb a b ≡ false
@@ -228,7 +229,7 @@ has_place keys ks place k d apart within e few (Some v) =
     equal : (a b : ℕ) → eqb a b ≡ true → a ≡ b
     equal a b h = grind (arith, nat_tests)
 
-rows_of_place : (keys : Keying) (ks : List ℤ) (place : ℕ) (k d : ℤ) → AreDistinct ks → place < length ks → get_or ks place d ≡ k → length ks ≤ 4194304 → (column : List (Option ℤ)) → map (λ p. eqb p place) (map (place_of keys ks) column) ≡ rows_with keys k column
+rows_of_place : (keys : Keying) (ks : List ℤ) (place : ℕ) (k d : ℤ) → AreDistinct ks → place < length ks → get_or ks place d ≡ k → length ks ≤ most_bits → (column : List (Option ℤ)) → map (λ p. eqb p place) (map (place_of keys ks) column) ≡ rows_with keys k column
 rows_of_place keys ks place k d apart within e few [] = refl
 rows_of_place keys ks place k d apart within e few (c ∷ column) =
     rw (has_place keys ks place k d apart within e few c, rows_of_place keys ks place k d apart within e few column) refl
@@ -238,19 +239,19 @@ group_at P [] i d all h = absurd (omega arith)
 group_at P (g ∷ gs) zero d all h = all.0
 group_at P (g ∷ gs) (suc i) d all h = group_at P gs i d all.1 (omega arith)
 
-bin_each : (held : Held) (column : List (Option ℤ)) (place : ℕ) (k : ℤ) → Gathered held column → length held.groups ≤ 4194304 → place < length held.groups → (get_or held.groups place no_group).key ≡ k → bin_for held.groups held.places place ≡ bin_of held.rule column k
+bin_each : (held : Held) (column : List (Option ℤ)) (place : ℕ) (k : ℤ) → Gathered held column → length held.groups ≤ most_bits → place < length held.groups → (get_or held.groups place no_group).key ≡ k → bin_for held.groups held.places place ≡ bin_of held.rule column k
 bin_each held column place k g few within e =
     let l = length-keys_in held.groups in
     let group : get_or held.groups place no_group ≡ group_of held.rule column k = group_at (λ x. x ≡ group_of held.rule column x.key) held.groups place no_group g.groups within ∙ ap (λ z. group_of held.rule column z) e in
     let rows : map (λ p. eqb p place) held.places ≡ rows_with held.rule k column = ap (map (λ p. eqb p place)) g.places ∙ rows_of_place held.rule (keys_in held.groups) place k (pos 0) g.distinct (omega (arith, l)) (keys_in-get held.groups place no_group (pos 0) within ∙ e) (omega (arith, l)) column in
     rw (group, rows) refl
 
-bins_each : (held : Held) (column : List (Option ℤ)) (order : List KeyPlace) → Gathered held column → length held.groups ≤ 4194304 → AllByRecursion (λ pair. (pair.place < length held.groups) × ((d : Group) → (get_or held.groups pair.place d).key ≡ pair.key)) order → map (λ pair. bin_for held.groups held.places pair.place) order ≡ map (bin_of held.rule column) (map (λ pair. pair.key) order)
+bins_each : (held : Held) (column : List (Option ℤ)) (order : List KeyPlace) → Gathered held column → length held.groups ≤ most_bits → AllByRecursion (λ pair. (pair.place < length held.groups) × ((d : Group) → (get_or held.groups pair.place d).key ≡ pair.key)) order → map (λ pair. bin_for held.groups held.places pair.place) order ≡ map (bin_of held.rule column) (map (λ pair. pair.key) order)
 bins_each held column [] g few all = refl
 bins_each held column (p ∷ order) g few all =
     rw (bin_each held column p.place p.key g few all.0.0 (all.0.1 no_group), bins_each held column order g few all.1) refl
 
-pub bins_final : (held : Held) (column : List (Option ℤ)) (order : List KeyPlace) → length held.groups ≤ 4194304 → ByKey held.groups order → Gathered held column → map (λ pair. bin_for held.groups held.places pair.place) order ≡ bins_of held.rule column
+pub bins_final : (held : Held) (column : List (Option ℤ)) (order : List KeyPlace) → length held.groups ≤ most_bits → ByKey held.groups order → Gathered held column → map (λ pair. bin_for held.groups held.places pair.place) order ≡ bins_of held.rule column
 bins_final held column order few b g =
     bins_each held column order g few b.places
     ∙ ap (map (bin_of held.rule column)) (rising_from (map (λ pair. pair.key) order) (map (key held.rule) (present column)) (b.rises g.distinct) (λ k. b.keys k ∙ g.keys k))

@@ -4,6 +4,7 @@ ghost use Rattle.std.specs.Int.{int_gap};
 ghost use Rattle.std.specs.List.{AllByRecursion};
 ghost use Rattle.std.specs.List.Sorted.{IsSorted};
 ghost use Rattle.std.specs.Ordering.{int_cmp, int_eq};
+ghost use Rattle.wah_words.specs.Limits.{most_bits};
 ghost use Rattle.wah_words.specs.Spelling.{words_of};
 ghost use Rattle.binning.specs.Spans.{IsInRange};
 ghost use Rattle.binning.specs.Keys.{Rises, rising, sorted, width_bounds, weight_bounds};
@@ -81,7 +82,7 @@ fn weight_bounds(alloc: Global, sorted: &[i128], count: u32) -> Result<Vec<i128>
     requires sorted { IsSorted int_cmp sorted.now }
     requires some { 1 ≤ count }
     requires few { count ≤ 100000 }
-    requires limit { length sorted.now ≤ 4194304 }
+    requires limit { length sorted.now ≤ most_bits }
     ensures { IfOk result (λ bounds. bounds.items ≡ rising (weight_bounds count sorted.now)) }
 {
     let mut bounds = Vec::new(alloc);

@@ -1,5 +1,6 @@
 //! What an encoding makes of bins: the bitmaps that an index keeps, those that a run of bins needs, and the run's rows.
 ghost use Rattle.std.specs.Prelude.{◌≡◌, ◌+◌, ◌*◌, ◌^◌, ◌<◌, ◌≤◌, All, List, Bool, length, IfOk, IfErr, OnOk, IsSome};
+ghost use Rattle.wah_words.specs.Limits.{most_bits};
 ghost use Rattle.wah_logic.specs.Logic.{groups_and_rest};
 ghost use Rattle.index_spec.specs.Counts.{bitmap_count, HasGroups};
 ghost use Rattle.index_spec.specs.Members.{needed};
@@ -50,7 +51,7 @@ pub trait Encoding {
     ) -> Result<Vec<Wah>, EncFault>
         requires groups { HasGroups (encoding self.now) }
         requires few { length bins.now < 2 ^ 32 }
-        requires limit { rows ≤ 4194304 }
+        requires limit { rows ≤ most_bits }
         requires long { All (λ b. length b.rows ≡ rows) bins.now }
         ensures bitmaps { IfOk result (λ v. AreBins rows (vectors bins.now) → v.items ≡ bitmaps_of (encoding self.now) rows (vectors bins.now)) }
         ensures counted { OnOk result (IsSome (bitmap_count (encoding self.now) (length bins.now))) }

@@ -1,6 +1,7 @@
 //! The bins of a column, gathered block by block.
 ghost use Rattle.std.specs.Prelude.{◌≡◌, ℤ, ◌+◌, ◌<◌, ◌≤◌, List, Option, Some, None, [], ◌∷◌, ◌++◌, if◌then◌else◌, length, map, IfOk, IfSome, OnOk};
 ghost use Rattle.std.specs.List.{AllByRecursion, range_with_len};
+ghost use Rattle.wah_words.specs.Limits.{most_bits};
 ghost use Rattle.wah_words.specs.Spelling.{words_of};
 ghost use Rattle.binning.specs.Spans.{IsInRange};
 ghost use Rattle.binning.specs.Bins.{cells, bins_of};
@@ -42,13 +43,14 @@ pub struct Gatherer {
 
 impl Model for Gatherer {
     ghost use Rattle.std.specs.Prelude.{◌≤◌, length};
+    ghost use Rattle.wah_words.specs.Limits.{most_bits};
     ghost use Rattle.binning.specs.Gathered.{Held, Knows, keys_in, AreDistinct};
 
     ghost Value = { Held };
 
     ghost view = { λ g. record { rule = g.rule; groups = g.groups.items; places = g.places.items } };
 
-    ghost invariant = { λ g. Knows g.known (keys_in g.groups.items) × AreDistinct (keys_in g.groups.items) × (length g.groups.items ≤ length g.places.items) × (length g.places.items ≤ 4194304) };
+    ghost invariant = { λ g. Knows g.known (keys_in g.groups.items) × AreDistinct (keys_in g.groups.items) × (length g.groups.items ≤ length g.places.items) × (length g.places.items ≤ most_bits) };
 }
 
 /// The value of a row, where there is one.
@@ -72,7 +74,7 @@ fn put_row(
     requires within { IfSome cell IsInRange }
     requires knows { Knows known.old (keys_in groups.old.items) }
     requires distinct { AreDistinct (keys_in groups.old.items) }
-    requires few { length groups.old.items < 4194304 }
+    requires few { length groups.old.items < most_bits }
     ensures groups { OnOk result (groups.new.items ≡ groups_after rule.now groups.old.items cell) }
     ensures places { OnOk result (places.new.items ≡ places.old.items ++ place_of rule.now (keys_in groups.old.items) cell ∷ []) }
     ensures knows { OnOk result (Knows known.new (keys_in groups.new.items)) }
@@ -100,7 +102,7 @@ fn put_rows(
     requires knows { Knows known.old (keys_in groups.old.items) }
     requires distinct { AreDistinct (keys_in groups.old.items) }
     requires few { length groups.old.items ≤ length places.old.items }
-    requires room { length places.old.items + length values.now ≤ 4194304 }
+    requires room { length places.old.items + length values.now ≤ most_bits }
     ensures knows { OnOk result (Knows known.new (keys_in groups.new.items)) }
     ensures distinct { OnOk result (AreDistinct (keys_in groups.new.items)) }
     ensures few { OnOk result (length groups.new.items ≤ length places.new.items) }
@@ -141,7 +143,7 @@ impl Gatherer {
     ) -> Result<Gatherer, AllocError>
         requires same { length values.now ≡ length present.now }
         requires within { AllByRecursion IsInRange values.now }
-        requires room { length self.places + length values.now ≤ 4194304 }
+        requires room { length self.places + length values.now ≤ most_bits }
         ensures rule { IfOk result (λ all. all.rule ≡ self.rule) }
         ensures rows { IfOk result (λ all. length all.places ≡ length self.places + length values.now) }
         ensures gathered { IfOk result (λ all. (column : List (Option ℤ)) → Gathered self column → Gathered all (column ++ cells present.now values.now)) }
@@ -193,7 +195,7 @@ fn bin_at(
 ) -> Result<Bin, AllocError>
     requires within { place < length groups.now }
     requires rows { rows.now ≡ map (rows_at places.now) (range_with_len 0 (length groups.now)) }
-    requires limit { length places.now ≤ 4194304 }
+    requires limit { length places.now ≤ most_bits }
     ensures { IfOk result (λ bin. bin ≡ bin_for groups.now places.now place) }
 {
     let group = groups[place as usize];
@@ -215,7 +217,7 @@ fn bins_in_order(
 ) -> Result<Vec<Bin>, AllocError>
     requires within { AllByRecursion (λ pair. pair.place < length groups.now) order.now }
     requires rows { rows.now ≡ map (rows_at places.now) (range_with_len 0 (length groups.now)) }
-    requires limit { length places.now ≤ 4194304 }
+    requires limit { length places.now ≤ most_bits }
     ensures { IfOk result (λ bins. bins.items ≡ map (λ pair. bin_for groups.now places.now pair.place) order.now) }
 {
     let mut bins = Vec::with_capacity(alloc, order.len())?;
@@ -227,8 +229,8 @@ fn bins_in_order(
 
 /// The bins of groups, where these are the rows' places.
 fn bins_of_groups(alloc: Global, groups: &[Group], places: &[u32]) -> Result<Vec<Bin>, AllocError>
-    requires few { length groups.now ≤ 4194304 }
-    requires limit { length places.now ≤ 4194304 }
+    requires few { length groups.now ≤ most_bits }
+    requires limit { length places.now ≤ most_bits }
     ensures { IfOk result (λ bins. (rule : Keying) (column : List (Option ℤ)) → Gathered (held rule groups.now places.now) column → bins.items ≡ bins_of rule column) }
 {
     let rows = rows_by_place(alloc, places, groups.len())?;

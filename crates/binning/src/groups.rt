@@ -1,6 +1,7 @@
 //! The groups of a column's values, one for each key, and the rows of each group.
 ghost use Rattle.std.specs.Prelude.{◌≡◌, ◌+◌, ◌<◌, ◌≤◌, ◌==◌, ◌∷◌, [], ◌++◌, if◌then◌else◌, Some, None, map, length, replicate, slice_index_or, slice_set, vec_len, false, IfOk, OnOk, IfSome};
 ghost use Rattle.std.specs.List.{AllByRecursion, range_with_len};
+ghost use Rattle.wah_words.specs.Limits.{most_bits};
 ghost use Rattle.binning.specs.Gathered.{AreDistinct, is_in, place_in, keys_in, Knows, with_value};
 ghost use Rattle.binning.specs.Groups.{place_if, grown, with_row, rows_at, pairs_from, ByKey};
 
@@ -23,7 +24,7 @@ pub struct Group {
 #[inline(always)]
 fn find(known: &HashMap<i128, u32>, groups: &[Group], last: usize, key: i128) -> Option<u32>
     requires knows { Knows known.now (keys_in groups.now) }
-    requires few { length groups.now ≤ 4194304 }
+    requires few { length groups.now ≤ most_bits }
     requires distinct { AreDistinct (keys_in groups.now) }
     ensures { result ≡ place_if key (keys_in groups.now) }
 {
@@ -52,7 +53,7 @@ fn add_group(
     v: i128,
 ) -> Result<u32, AllocError>
     requires knows { Knows known.old (keys_in groups.old.items) }
-    requires few { length groups.old.items < 4194304 }
+    requires few { length groups.old.items < most_bits }
     requires absent { is_in key (keys_in groups.old.items) ≡ false }
     ensures groups { OnOk result (groups.new.items ≡ with_value groups.old.items key v) }
     ensures place { IfOk result (λ place. place ≡ length groups.old.items) }
@@ -77,7 +78,7 @@ pub(crate) fn place(
     v: i128,
 ) -> Result<u32, AllocError>
     requires knows { Knows known.old (keys_in groups.old.items) }
-    requires few { length groups.old.items < 4194304 }
+    requires few { length groups.old.items < most_bits }
     requires distinct { AreDistinct (keys_in groups.old.items) }
     ensures groups { OnOk result (groups.new.items ≡ with_value groups.old.items key v) }
     ensures place { IfOk result (λ place. place ≡ place_in key (keys_in groups.old.items)) }
@@ -136,7 +137,7 @@ pub(crate) fn rows_by_place(
     places: &[u32],
     count: usize,
 ) -> Result<Vec<Items<u32>>, AllocError>
-    requires limit { length places.now ≤ 4194304 }
+    requires limit { length places.now ≤ most_bits }
     ensures { IfOk result (λ rows. rows.items ≡ map (rows_at places.now) (range_with_len 0 count)) }
 {
     let counts = counts(alloc, places, count)?;
@@ -156,7 +157,7 @@ pub struct KeyPlace {
 
 /// The groups' keys, each with its place.
 fn key_places(alloc: Global, groups: &[Group]) -> Result<Vec<KeyPlace>, AllocError>
-    requires few { length groups.now ≤ 4194304 }
+    requires few { length groups.now ≤ most_bits }
     ensures { IfOk result (λ pairs. pairs.items ≡ pairs_from 0 groups.now) }
 {
     let mut pairs = Vec::with_capacity(alloc, groups.len())?;
@@ -171,7 +172,7 @@ fn key_places(alloc: Global, groups: &[Group]) -> Result<Vec<KeyPlace>, AllocErr
 
 /// The groups' keys, each with its place, in rising order.
 pub(crate) fn by_key(alloc: Global, groups: &[Group]) -> Result<Vec<KeyPlace>, AllocError>
-    requires few { length groups.now ≤ 4194304 }
+    requires few { length groups.now ≤ most_bits }
     ensures { IfOk result (λ order. ByKey groups.now order.items) }
 {
     let mut order = key_places(alloc, groups)?;

@@ -1,5 +1,6 @@
 //! Masks as truth values and rows.
 ghost use Rattle.std.specs.Prelude.{◌≡◌, ◌+◌, ◌≤◌, [], ◌∷◌, ◌++◌, if◌then◌else◌, length, vec_len, OnOk, IfOk};
+ghost use Rattle.wah_words.specs.Limits.{most_bits};
 ghost use Rattle.wah_words.specs.Places.{places};
 ghost use Rattle.wah_words.specs.Spelling.{words_of};
 ghost use Rattle.wah_words.specs.Left.{run_values};
@@ -76,7 +77,7 @@ pub(crate) fn present_values<L: Ledger>(
 ) -> Result<Vec<i128>, AllocError>
     requires { length values.now ≡ length mask.now }
     ensures values { IfOk result (λ v. v.items ≡ present (cells mask.now values.now)) }
-    ensures few { IfOk result (λ v. vec_len v ≤ 4194304) }
+    ensures few { IfOk result (λ v. vec_len v ≤ most_bits) }
     ensures steps { steps.new ≤ steps.old + words_of mask.now }
 {
     let _rows = mask.len();

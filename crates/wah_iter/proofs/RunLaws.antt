@@ -8,7 +8,7 @@ use Rattle.std.specs.Int.Count.{count_leading_zeros}
 use Rattle.wah_words.specs.Places.{places}
 use Rattle.wah_words.proofs.PlacesLemmas.{length-places, places-zeros, places-ones}
 use Rattle.wah_iter.specs.Rows.{before, runs_from}
-use Rattle.wah_iter.specs.Walks.{runs_left, BeginsAt, IsTop, IsFirstRun}
+use Rattle.wah_iter.specs.Walks.{runs_left, BeginsAt, BeginsAfter, IsTop, IsFirstRun}
 use Rattle.wah_iter.proofs.PlacesLaws.{places-cat}
 use Rattle.wah_iter.proofs.AppendLaws.{joined_below}
 use Rattle.wah_iter.proofs.WalkLaws.{tail_places}
@@ -123,9 +123,14 @@ is_first_run word z t =
     let rest : word % 2 ^ n ≡ 2 ^ n - 1 - m = ap (λ x. x % 2 ^ n) split ∙ mod-mul-add (2 ^ (y - z) - 1) (2 ^ n) (2 ^ n - 1 - m) below in
     let rest_below : word % 2 ^ n < 2 ^ n = rw rest below in
     let split_rest : word ≡ (2 ^ (y - z) - 1) * 2 ^ n + word % 2 ^ n = split ∙ ap (λ x. (2 ^ (y - z) - 1) * 2 ^ n + x) (sym rest) in
+    let zero_below : y < 32 → word % 2 ^ n < 2 ^ (31 - y) = (λ h.
+    let one : n ≡ suc (31 - y) = omega (arith, e, h) in
+    let half : 2 ^ n ≡ 2 ^ (31 - y) * 2 = ap (λ k. 2 ^ k) one ∙ pow-suc 2 (31 - y) in
+    omega (arith, rest, half, low, high)) in
     record {
       after = omega (arith, e, short);
       few = omega (arith, e);
+      zero_next = (let P : ℕ → Type 0 = λ k. y < 32 → word % 2 ^ k < 2 ^ (31 - y) in subst P (sym place) zero_below);
       rest = (let P : ℕ → Type 0 = λ k. word % 2 ^ k < 2 ^ k in subst P (sym place) rest_below);
       split = (let P : ℕ → Type 0 = λ k. word ≡ (2 ^ (y - z) - 1) * 2 ^ k + word % 2 ^ k in subst P (sym place) split_rest);
     }
@@ -161,6 +166,45 @@ range_taken base word next end rs e h =
     let none : (qs : List (ℕ × ℕ)) → runs_from base (places 31 word) qs ≡ qs = λ qs. ap (λ w. runs_from base (places 31 w) qs) e ∙ runs-zero base 31 qs in
     let last : next + (end - next) ≡ end = omega arith in
     none (runs_from next (replicate (end - next) true) rs) ∙ runs_from-ones next (end - next) rs (omega arith) ∙ ap (λ k. before next k rs) last ∙ ap (before next end) (sym (none (runs_from end (replicate (end - end) true) rs) ∙ runs-same end end end rs refl))
+
+-- ---- a run after which a zero comes
+
+begins_after_first : (past a b : ℕ) (r : ℕ × ℕ) (rs : List (ℕ × ℕ)) (t : Bool) → past < a → BeginsAfter past (cond t ((a, r.1) ∷ rs) ((a, b) ∷ r ∷ rs))
+begins_after_first past a b r rs true h = h
+begins_after_first past a b r rs false h = h
+
+begins_after_before : (past a b : ℕ) (rs : List (ℕ × ℕ)) → past < a → BeginsAfter past (before a b rs)
+begins_after_before past a b [] h = h
+begins_after_before past a b (r ∷ rs) h = begins_after_first past a b r rs (eqb b r.0) h
+
+pub begins_after : (past k : ℕ) (v : List Bool) (rs : List (ℕ × ℕ)) → past < k → BeginsAfter past rs → BeginsAfter past (runs_from k v rs)
+unfolding runs_from
+begins_after past k [] rs h e = e
+begins_after past k (true ∷ v) rs h e = begins_after_before past k (k + 1) (runs_from (k + 1) v rs) h
+begins_after past k (false ∷ v) rs h e = begins_after past (k + 1) v rs (omega (arith, h)) e
+
+-- the rest of a word whose first run ends before the word does
+pub apart_word : (base word z y next end : ℕ) (v : List Bool) → IsFirstRun word z y → (next ≡ end) × (end ≤ base + 31) → base + y - 1 < end → BeginsAfter (base + y - 1) (runs_left (word % 2 ^ (32 - y)) base next end v)
+apart_word base word z y next end v f alone h =
+    let l : ℕ = 31 - y in
+    let r : ℕ = word % 2 ^ (32 - y) in
+    let past : ℕ = base + y - 1 in
+    let more = runs_from next (replicate (end - next) true) (runs_from end v []) in
+    let few : y < 32 = omega (arith, f.after, alone.1, h) in
+    let width : 31 ≡ y + l = omega (arith, few) in
+    let high : r ≡ 0 * 2 ^ l + r = omega arith in
+    let all : places 31 r ≡ places y 0 ++ places l r = ap (places 31) high ∙ ap (λ c. places c (0 * 2 ^ l + r)) width ∙ places-cat y l 0 r (f.zero_next few) in
+    let later : BeginsAfter past more = subst (λ rs. BeginsAfter past rs) (sym (runs-same next next end (runs_from end v []) alone.0)) (begins_after past end v [] h tt) in
+    let same : runs_from base (places 31 r) more ≡ runs_from (base + length (places y 0)) (places l r) more =
+    ap (λ w. runs_from base w more) all ∙ runs_from-append base (places y 0) (places l r) more ∙ runs-zero base y (runs_from (base + length (places y 0)) (places l r) more) in
+    let after : past < base + length (places y 0) = omega (arith, length-places y 0, f.after) in
+    subst (λ rs. BeginsAfter past rs) (sym same) (begins_after past (base + length (places y 0)) (places l r) more after later)
+
+pub before_later : (first past : ℕ) (rs : List (ℕ × ℕ)) → BeginsAfter past rs → before first past rs ≡ (first, past) ∷ rs
+before_later first past [] h = refl
+before_later first past (r ∷ rs) h =
+    let apart : eqb past r.0 ≡ false = ne_eqb past r.0 (λ e. omega (arith, e, h)) in
+    rw apart refl
 
 -- ---- a whole walk
 

@@ -1,5 +1,5 @@
 -- What a walk over the ones of a vector has still to give.
-use Rattle.std.specs.Prelude.{◌≡◌, ℕ, ◌+◌, ◌-◌, ◌*◌, ◌%◌, ◌^◌, ◌<◌, ◌≤◌, Bool, true, List, [], ◌∷◌, ◌++◌, replicate, Option, None, Some}
+use Rattle.std.specs.Prelude.{◌≡◌, ℕ, ◌+◌, ◌-◌, ◌*◌, ◌%◌, ◌^◌, ◌<◌, ◌≤◌, ⊤, Bool, true, List, [], ◌∷◌, ◌++◌, replicate, Option, None, Some}
 use Rattle.wah_words.specs.Limits.{most_bits}
 use Rattle.wah_words.specs.Places.{places}
 use Rattle.wah_iter.specs.Rows.{rows_from, runs_from}
@@ -14,6 +14,8 @@ pub record IsPiece (word base next end : ℕ) : Type 0 where
   pub base_first : base ≤ end
   pub next_first : next ≤ end
   pub within : end ≤ most_bits
+  -- beside ones of the word no rows come, and the word's values end in its places
+  pub alone : 0 < word → (next ≡ end) × (end ≤ base + 31)
 
 -- a walk's rows and words that are still to come
 pub record RowsLeft : Type 0 where
@@ -45,6 +47,11 @@ abbrev pub BeginsAt : ℕ → List (ℕ × ℕ) → Type 0
 BeginsAt row [] = ⊥
 BeginsAt row (r ∷ rs) = r.0 ≡ row
 
+-- no run begins at this row or before it
+abbrev pub BeginsAfter : ℕ → List (ℕ × ℕ) → Type 0
+BeginsAfter row [] = ⊤
+BeginsAfter row (r ∷ rs) = row < r.0
+
 -- ---- the first run of a word of 31 places, in a number of 32
 
 -- z zeros are above the highest place
@@ -60,6 +67,7 @@ pub record IsFirstRun (word z y : ℕ) : Type 0 where
   pub few : y ≤ 32
   pub rest : word % 2 ^ (32 - y) < 2 ^ (32 - y)
   pub split : word ≡ (2 ^ (y - z) - 1) * 2 ^ (32 - y) + word % 2 ^ (32 - y)
+  pub zero_next : y < 32 → word % 2 ^ (32 - y) < 2 ^ (31 - y)
 
 -- how much a walk has still to do, which each run that it takes makes less
 abbrev pub size : ℕ → ℕ → ℕ → ℕ → ℕ

@@ -1,11 +1,11 @@
 //! The ones of one word.
-ghost use Rattle.std.specs.Prelude.{◌≡◌, ◌+◌, ◌-◌, ◌*◌, ◌^◌, ◌<◌, ◌≤◌, ℕ, List, [], ◌∷◌, ◌++◌, ◌⊎◌, true, false, length, replicate};
+ghost use Rattle.std.specs.Prelude.{◌≡◌, ◌+◌, ◌-◌, ◌*◌, ◌^◌, ◌<◌, ◌≤◌, ℕ, Bool, List, [], ◌∷◌, ◌++◌, ◌⊎◌, true, false, length, replicate};
 ghost use Rattle.wah_words.specs.Limits.{most_bits};
 ghost use Rattle.wah_words.specs.Places.{places};
 ghost use Rattle.wah_words.specs.Left.{run_values};
 ghost use Rattle.wah_iter.specs.Runs.{Fits};
 ghost use Rattle.wah_iter.specs.Rows.{rows_from, before, runs_from};
-ghost use Rattle.wah_iter.specs.Walks.{rows_left, runs_left, IsPiece, BeginsAt, IsTop, IsFirstRun, size};
+ghost use Rattle.wah_iter.specs.Walks.{rows_left, runs_left, IsPiece, BeginsAt, BeginsAfter, IsTop, IsFirstRun, size};
 
 use std::sync::ledger::Ledger;
 use steps::Steps;
@@ -124,7 +124,7 @@ fn first_run(word: u32) -> (u32, u32)
     ensures run { IsFirstRun word result.0 result.1 }
 {
     let above = word.leading_zeros();
-    let below = ((1 << (32 - above)) - 1 - word).leading_zeros();
+    let below = ((u32::MAX >> above) - word).leading_zeros();
     (above, below)
 }
 
@@ -137,6 +137,7 @@ pub(crate) fn take_run(piece: &mut Piece) -> (u32, u32)
     ensures piece { IsPiece piece.new.word piece.new.base piece.new.next piece.new.end }
     ensures end { piece.new.end ≡ piece.old.end }
     ensures less { size piece.new.word piece.new.next piece.new.end 0 < size piece.old.word piece.old.next piece.old.end 0 }
+    ensures apart { result.1 < piece.new.end → (v : List Bool) → BeginsAfter result.1 (runs_left piece.new.word piece.new.base piece.new.next piece.new.end v) }
     ensures runs { (rs : List (ℕ × ℕ)) → runs_from piece.old.base (places 31 piece.old.word) (runs_from piece.old.next (replicate (piece.old.end - piece.old.next) true) rs) ≡ before result.0 result.1 (runs_from piece.new.base (places 31 piece.new.word) (runs_from piece.new.next (replicate (piece.new.end - piece.new.next) true) rs)) }
 {
     if piece.word > 0 {

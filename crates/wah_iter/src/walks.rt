@@ -110,7 +110,8 @@ impl<'a> RowRuns<'a> {
             return None;
         }
         let (first, mut past) = take_run(&mut self.piece);
-        while find_one(&mut self.cursor, &mut self.piece, steps) {
+        // a run that ends before its word does is over
+        while past >= self.piece.end && find_one(&mut self.cursor, &mut self.piece, steps) {
             if first_one(&self.piece) != past {
                 break;
             }

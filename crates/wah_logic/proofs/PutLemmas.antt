@@ -43,6 +43,13 @@ group_beside op p w r e = e ∙ ap (λ l. each_place op l (places 31 w)) (places
 pub beside_any : (op : Bool → Bool → Bool) (p : Bool) (n : ℕ) (y : List Bool) → op p false ≡ op p true → n ≤ length y → each_place op (replicate n p) (take n y) ≡ replicate n (op p false)
 beside_any op p n y e h = each_left op p e n (take n y) (length-take-le n y h)
 
+-- so much longer
+pub filled_length : (op : Bool → Bool → Bool) (p : Bool) (n : ℕ) (y out new : List Bool) → new ≡ out ++ each_place op (replicate n p) (take n y) → n ≤ length y → length new ≡ length out + n
+filled_length op p n y out new e h =
+    let front : length (take n y) ≡ n = length-take-le n y h in
+    let put : length (each_place op (replicate n p) (take n y)) ≡ n = length-each op (replicate n p) (take n y) (length-replicate n p ∙ sym front) ∙ length-replicate n p in
+    ap length e ∙ length-append out (each_place op (replicate n p) (take n y)) ∙ ap (λ k. length out + k) put
+
 -- no groups
 pub beside_none : (op : Bool → Bool → Bool) (p : Bool) (out y : List Bool) (n : ℕ) → n ≡ 0 → out ≡ out ++ each_place op (replicate (31 * n) p) (take (31 * n) y)
 unfolding each_place

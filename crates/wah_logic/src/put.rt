@@ -36,9 +36,37 @@ pub(crate) fn put_run<O: BitOp, L: Ledger>(
     ensures steps { steps.new + x.new.words + y.new.words ≡ steps.old + x.old.words + y.old.words }
 {
     match run {
-        Run::Fill { bit, groups } => put_fill::<O, L>(bit, groups, y, out, steps),
+        Run::Fill { bit, groups } => put_fills::<O, L>(bit, groups, x, y, out, steps),
         Run::Literal(word) => put_literals::<O, L>(word, x, y, out, steps),
         Run::Tail { bits, count } => put_tail::<O, L>(bits, count, y, out, steps),
+    }
+}
+
+/// Puts out the operation where a fill was taken from x, and on what is left after it of a fill of y. So y never stands
+/// inside a fill when a run is taken from x.
+#[inline(always)]
+fn put_fills<O: BitOp, L: Ledger>(
+    bit: bool,
+    groups: u32,
+    x: &mut Side,
+    y: &mut Side,
+    out: &mut Builder,
+    steps: &mut Steps<L>,
+)
+    requires same { 31 * groups + length x.old.values ≡ length y.old.values }
+    requires aligned { length out.old.values % 31 ≡ 0 }
+    requires room { looks x.old + looks y.old + 1 ≤ out.old.spare }
+    requires limit { length out.old.values + length y.old.values ≤ most_bits }
+    ensures puts { Puts O.op (replicate (31 * groups) bit ++ x.old.values) y.old.values out.old.values x.new.values y.new.values out.new.values }
+    ensures words { words_of out.new.values + looks x.new + looks y.new ≤ words_of out.old.values + looks x.old + looks y.old + 1 }
+    ensures spare { out.old.spare + looks x.new + looks y.new ≤ out.new.spare + looks x.old + looks y.old + 1 }
+    ensures looks { looks x.new + looks y.new ≤ looks x.old + looks y.old }
+    ensures steps { steps.new + x.new.words + y.new.words ≡ steps.old + x.old.words + y.old.words }
+{
+    put_fill::<O, L>(bit, groups, y, out, steps);
+    let (other, left) = y.take_fill();
+    if left > 0 {
+        put_fill::<Swapped<O>, L>(other, left, x, out, steps);
     }
 }
 

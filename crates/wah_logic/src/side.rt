@@ -60,6 +60,19 @@ impl<'a> Side<'a> {
         self.cursor.advance(steps)
     }
 
+    /// What is left of the fill, which is then taken. No groups where there is none.
+    #[inline(always)]
+    pub(crate) fn take_fill(&mut self) -> (bool, u32)
+        ensures values { self.old.values ≡ replicate (31 * result.1) result.0 ++ self.new.values }
+        ensures words { self.new.words ≡ self.old.words }
+        ensures left { self.old.fills ≡ (if result.1 == 0 then 0 else 1) }
+        ensures fills { self.new.fills ≡ 0 }
+    {
+        let groups = self.left;
+        self.left = 0;
+        (self.bit, groups)
+    }
+
     /// The same where a group is to come.
     #[inline(always)]
     pub(crate) fn take_group<L: Ledger>(&mut self, steps: &mut Steps<L>) -> Run

@@ -1,4 +1,5 @@
 ghost use Rattle.std.specs.Prelude.{◌≡◌, ◌+◌, ◌*◌, ◌%◌, ◌<◌, ◌≤◌, All, length, IfOk};
+ghost use Rattle.wah_words.specs.Limits.{most_bits};
 
 use super::*;
 use std::alloc::{AllocError, Global};
@@ -147,7 +148,7 @@ fn union_of_none<L: Ledger>(blank: Blank, alloc: Global) -> Result<Vec<u8>, Allo
 fn push_zeros(out: &mut Builder, groups: u32)
     requires aligned { length out.old.values % 31 ≡ 0 }
     requires room { 1 ≤ out.old.spare }
-    requires limit { length out.old.values + 31 * groups ≤ 4194304 }
+    requires limit { length out.old.values + 31 * groups ≤ most_bits }
     ensures length { length out.new.values ≡ length out.old.values + 31 * groups }
     ensures spare { out.old.spare ≤ out.new.spare + 1 }
 {
@@ -160,7 +161,7 @@ fn push_zeros(out: &mut Builder, groups: u32)
 fn push_first(out: &mut Builder)
     requires aligned { length out.old.values % 31 ≡ 0 }
     requires room { 1 ≤ out.old.spare }
-    requires limit { length out.old.values + 31 ≤ 4194304 }
+    requires limit { length out.old.values + 31 ≤ most_bits }
     ensures length { length out.new.values ≡ length out.old.values + 31 }
     ensures spare { out.old.spare ≤ out.new.spare + 1 }
 {

@@ -1,4 +1,4 @@
-use Rattle.std.proofs.Common.{◌+◌, ◌*◌, sym, ap, arith}
+use Rattle.std.proofs.Common.{◌+◌, ◌*◌, refl, sym, ap, arith}
 use Rattle.wah_words.proofs.PlacesLemmas.{length-places}
 use Rattle.wah_iter.proofs.WalkLaws.{fill_true, fill_false, word_rows, tail_fits, tail_rows}
 use Rattle.wah_words.specs.Places.{places}
@@ -14,7 +14,7 @@ returns-else-bit-clause-rows c = rw c.in-Fill.is (fill_false c.args.row (31 * c.
 pub returns-in-Literal-clause-piece : goal.returns-in-Literal-clause-piece
 returns-in-Literal-clause-piece c =
     let h = rw c.in-Literal.is at c.requires.limit in
-    record { word_fits = rw c.in-Literal.is at c.requires.fits; base_first = omega arith; next_first = omega arith; within = omega (arith, h, length-places 31 c.in-Literal.word) }
+    record { word_fits = rw c.in-Literal.is at c.requires.fits; base_first = omega arith; next_first = omega arith; within = omega (arith, h, length-places 31 c.in-Literal.word); alone = λ some. (refl, omega arith) }
 
 pub returns-in-Literal-clause-end : goal.returns-in-Literal-clause-end
 returns-in-Literal-clause-end c = rw c.in-Literal.is (ap (λ n. c.args.row + n) (sym (length-places 31 c.in-Literal.word)))
@@ -26,7 +26,7 @@ pub returns-in-Tail-clause-piece : goal.returns-in-Tail-clause-piece
 returns-in-Tail-clause-piece c =
     let h = rw c.in-Tail.is at c.requires.limit in
     let f = rw c.in-Tail.is at c.requires.fits in
-    record { word_fits = tail_fits c.in-Tail.bits c.in-Tail.count f.1 f.0; base_first = omega arith; next_first = omega arith; within = omega (arith, h, length-places c.in-Tail.count c.in-Tail.bits) }
+    record { word_fits = tail_fits c.in-Tail.bits c.in-Tail.count f.1 f.0; base_first = omega arith; next_first = omega arith; within = omega (arith, h, length-places c.in-Tail.count c.in-Tail.bits); alone = λ some. (refl, omega (arith, f.0)) }
 
 pub returns-in-Tail-clause-end : goal.returns-in-Tail-clause-end
 returns-in-Tail-clause-end c = rw c.in-Tail.is (ap (λ n. c.args.row + n) (sym (length-places c.in-Tail.count c.in-Tail.bits)))

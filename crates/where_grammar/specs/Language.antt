@@ -1,5 +1,5 @@
 -- Which clause a text spells, and what is said of a text that spells none.
-use Rattle.std.specs.Prelude.{◌≡◌, ◌≤◌, ◌<◌, ⊤, ℕ, true, false, nat_lt, if◌then◌else◌, List, ◌++◌, length, drop, take, Option, Some, None, Result, Ok, Err, codes}
+use Rattle.std.specs.Prelude.{◌≡◌, ◌≤◌, ◌<◌, ℕ, true, false, nat_lt, if◌then◌else◌, List, ◌++◌, length, drop, take, Option, Some, None, Result, Ok, Err, codes}
 use Rattle.std.specs.List.{list_all, prefix_len}
 use Rattle.std.specs.Str.{str_eq_ignore_ascii_case, str_to_ascii_lowercase}
 use Rattle.lexing.specs.Blanks.{StopsAt, is_blank}
@@ -11,6 +11,7 @@ use Rattle.where_grammar.specs.declared.clause.ClauseFault.TheVariants as fault
 use Rattle.where_grammar.specs.declared.clause.ClauseRead.{ClauseRead}
 use Rattle.where_grammar.specs.declared.token.Placed.{Placed}
 use Rattle.where_grammar.specs.Tokens.{Spells, StopsWith, in_word, tokens_of}
+use Rattle.where_grammar.specs.Limits.{most_bytes}
 use Rattle.where_grammar.specs.Nesting.{is_deep}
 use Rattle.where_grammar.specs.Grammar.{IsClause}
 use Rattle.where_grammar.specs.Parsing.{bare, clause_of, long_of}
@@ -19,15 +20,15 @@ use Rattle.where_grammar.specs.Parsing.{bare, clause_of, long_of}
 
 -- The text has at most 1,048,576 bytes, spells these tokens, and they don't nest too deep.
 pub record HasTokens (text : List ℕ) (tokens : List Placed) : Type 0 where
-  pub fits : length text ≤ 1048576
+  pub fits : length text ≤ most_bytes
   pub spelled : Spells text tokens
   pub shallow : is_deep (bare tokens) ≡ false
 
 -- The text has no tokens for this reason, the first one that holds.
 pub data NoTokens (text : List ℕ) : QueryKind → Type 0 where
-  too_long : 1048576 < length text → NoTokens text kind.Length
-  stopped : (k : QueryKind) → length text ≤ 1048576 → StopsWith text k → NoTokens text k
-  too_deep : (tokens : List Placed) → length text ≤ 1048576 → Spells text tokens → is_deep (bare tokens) ≡ true → NoTokens text kind.Depth
+  too_long : most_bytes < length text → NoTokens text kind.Length
+  stopped : (k : QueryKind) → length text ≤ most_bytes → StopsWith text k → NoTokens text k
+  too_deep : (tokens : List Placed) → length text ≤ most_bytes → Spells text tokens → is_deep (bare tokens) ≡ true → NoTokens text kind.Depth
 
 -- The text is this clause, whose lists have at most 4,096 items each.
 pub record SpellsClause (c : Clause) (text : List ℕ) : Type 0 where
@@ -50,7 +51,7 @@ shallow_or_refused (Err k) = Err k
 
 -- the tokens of a text, or the first refusal
 unfoldable pub read_tokens : List ℕ → Result (List Placed) QueryKind
-read_tokens text = if nat_lt 1048576 (length text) then Err kind.Length else shallow_or_refused (tokens_of text)
+read_tokens text = if nat_lt most_bytes (length text) then Err kind.Length else shallow_or_refused (tokens_of text)
 
 abbrev pub listed : Option ℕ → Clause → Result Clause QueryKind
 listed None c = Ok c

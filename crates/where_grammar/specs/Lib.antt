@@ -1,3 +1,4 @@
+pub mod Limits
 pub mod Holds
 pub mod Tokens
 pub mod Shorter

@@ -1,6 +1,7 @@
 -- How deep tokens nest: open parentheses, and `not`s in a row.
 use Rattle.std.specs.Prelude.{ℕ, ◌+◌, ◌-◌, ◌==◌, Bool, true, false, ◌&&◌, ◌||◌, if◌then◌else◌, List, [], ◌∷◌, codes}
 use Rattle.std.specs.Str.{bytes_eq}
+use Rattle.where_grammar.specs.Limits.{most_nots, most_open}
 use Rattle.where_grammar.specs.declared.token.Sign.{Sign}
 use Rattle.where_grammar.specs.declared.token.Sign.TheVariants as sign
 use Rattle.where_grammar.specs.declared.token.Token.{Token}
@@ -50,8 +51,8 @@ is_crowded room (token ∷ tokens) = is_open token && room == 0 || is_crowded (r
 -- behind n `not`s in a row, more than 16 come together at some place
 abbrev pub is_much_negated : ℕ → List Token → Bool
 is_much_negated n [] = false
-is_much_negated n (token ∷ tokens) = if is_not token then n == 16 || is_much_negated (n + 1) tokens else is_much_negated 0 tokens
+is_much_negated n (token ∷ tokens) = if is_not token then n == most_nots || is_much_negated (n + 1) tokens else is_much_negated 0 tokens
 
 -- at some token more than 64 parentheses are open, or more than 16 `not`s stand in a row
 abbrev pub is_deep : List Token → Bool
-is_deep tokens = is_crowded 64 tokens || is_much_negated 0 tokens
+is_deep tokens = is_crowded most_open tokens || is_much_negated 0 tokens

@@ -1,5 +1,5 @@
 -- The clause that tokens spell, as a function.
-use Rattle.std.specs.Prelude.{ℕ, zero, suc, nat_le, Bool, ◌&&◌, if◌then◌else◌, List, [], ◌∷◌, length, drop, map, Option, Some, None, ℤ, codes}
+use Rattle.std.specs.Prelude.{ℕ, zero, suc, ◌+◌, nat_le, Bool, false, ◌&&◌, ◌||◌, if◌then◌else◌, List, [], ◌∷◌, length, drop, map, Option, Some, None, ℤ, codes}
 use Rattle.std.proofs.Common.{Bor}
 use Rattle.std.specs.List.{prefix_len}
 use Rattle.std.specs.Option.{option_map, option_and_then}
@@ -17,6 +17,7 @@ use Rattle.where_grammar.specs.declared.token.Sign.TheVariants as sign
 use Rattle.where_grammar.specs.declared.token.Token.{Token}
 use Rattle.where_grammar.specs.declared.token.Token.TheVariants as t
 use Rattle.where_grammar.specs.declared.token.Placed.{Placed}
+use Rattle.where_grammar.specs.Limits.{most_items, most_open}
 use Rattle.where_grammar.specs.Nesting.{is_word, is_sign, is_open, is_close, is_not}
 use Rattle.where_grammar.specs.Grammar.{group, joins, turned}
 
@@ -224,6 +225,24 @@ part_at join.And inner = nots_at inner
 part_at join.Xor inner = joined_at join.And (nots_at inner)
 part_at join.Or inner = joined_at join.Xor (joined_at join.And (nots_at inner))
 
+-- a joint that is tighter than those of this level
+abbrev pub is_tighter : Join → Token → Bool
+is_tighter join.Or token = joins join.Xor token || joins join.And token
+is_tighter join.Xor token = joins join.And token
+is_tighter join.And token = false
+
+-- behind its first unit a part of this level goes on
+abbrev pub part_goes_on : Join → List Token → Bool
+part_goes_on j [] = false
+part_goes_on j (token ∷ tokens) = is_tighter j token
+
+-- a part of this level from its first unit on
+abbrev pub part_from : Join → At Clause → Clause → At Clause
+part_from join.And inner first tokens = Some (first, tokens)
+part_from join.Xor inner first tokens = parts_behind join.And (part_at join.And inner) first tokens
+part_from join.Or inner first tokens =
+    option_and_then (λ found. parts_behind join.Xor (part_at join.Xor inner) found.0 found.1) (parts_behind join.And (part_at join.And inner) first tokens)
+
 -- a clause with less than n parentheses one in the other
 abbrev pub clause_within : ℕ → At Clause
 clause_within zero tokens = None
@@ -239,7 +258,7 @@ whole (Some found) = whole_by found.0 found.1
 
 -- the clause that the tokens spell, where at most 64 parentheses are open
 unfoldable pub clause_of : List Token → Option Clause
-clause_of tokens = whole (clause_within 65 tokens)
+clause_of tokens = whole (clause_within (most_open + 1) tokens)
 
 -- ---- lists
 
@@ -250,7 +269,7 @@ commas_before_close (token ∷ tokens) = if is_close token then 0 else (if is_si
 
 -- the list behind this `in` has more than 4,096 items
 abbrev pub is_long : Token → List Token → Bool
-is_long token tokens = is_word (codes "in") token && nat_le 4096 (commas_before_close tokens)
+is_long token tokens = is_word (codes "in") token && nat_le most_items (commas_before_close tokens)
 
 -- the place of the name before the first such `in`
 abbrev pub long_behind : Placed → List Placed → Option ℕ

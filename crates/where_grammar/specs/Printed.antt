@@ -15,6 +15,7 @@ use Rattle.where_grammar.specs.declared.token.Sign.{Sign}
 use Rattle.where_grammar.specs.declared.token.Sign.TheVariants as sign
 use Rattle.where_grammar.specs.declared.token.Token.{Token}
 use Rattle.where_grammar.specs.declared.token.Token.TheVariants as t
+use Rattle.where_grammar.specs.Limits.{most_bytes, most_items, most_text}
 use Rattle.where_grammar.specs.Tokens.{doubled, fits_128}
 use Rattle.where_grammar.specs.Nesting.{is_open, is_close, is_sign, is_deep}
 use Rattle.where_grammar.specs.Grammar.{IsClause, behind_commas, closing, keyword, opening, operator, turned}
@@ -128,17 +129,17 @@ IsGiven clause = (tokens : List Token) × IsClause clause tokens × (list_all is
 abbrev pub is_long_text : Token → Bool
 is_long_text (t.Word word) = false
 is_long_text (t.Number z) = false
-is_long_text (t.Text text) = nat_lt 65535 (length text)
+is_long_text (t.Text text) = nat_lt most_text (length text)
 is_long_text (t.Sign s) = false
 
 abbrev pub has_long_list : Atom → Bool
 has_long_list (atom.Compare name by value) = false
 has_long_list (atom.Double name left low right high) = false
 has_long_list (atom.Between name low high) = false
-has_long_list (atom.Numbers name list) = nat_lt 4096 (length list)
+has_long_list (atom.Numbers name list) = nat_lt most_items (length list)
 has_long_list (atom.Same name text) = false
 has_long_list (atom.Other name text) = false
-has_long_list (atom.Texts name list) = nat_lt 4096 (length list)
+has_long_list (atom.Texts name list) = nat_lt most_items (length list)
 has_long_list (atom.Like name pattern) = false
 has_long_list (atom.Exists name) = false
 
@@ -156,7 +157,7 @@ lists_too_much clause = fold-Clause Bool any_by_parts clause
 -- The clause again, or the first limit that the print passes.
 abbrev pub reread : Clause → Result Clause QueryKind
 reread clause =
-    if nat_lt 1048576 (length (clause_text clause)) then Err kind.Length
+    if nat_lt most_bytes (length (clause_text clause)) then Err kind.Length
     else (if list_any is_long_text (clause_tokens clause) then Err kind.TextLength
     else (if is_deep (clause_tokens clause) then Err kind.Depth
     else (if lists_too_much clause then Err kind.ListLength else Ok clause)))

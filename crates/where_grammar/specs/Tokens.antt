@@ -9,6 +9,7 @@ use Rattle.fb_types.specs.Field.{whole_of}
 use Rattle.lexing.specs.Blanks.{StopsAt}
 use Rattle.lexing.specs.Digits.{natural_at, signed}
 use Rattle.lexing.specs.Tokens as lexing
+use Rattle.where_grammar.specs.Limits.{most_text}
 use Rattle.where_grammar.specs.declared.clause.QueryKind.{QueryKind}
 use Rattle.where_grammar.specs.declared.clause.QueryKind.TheVariants as kind
 use Rattle.where_grammar.specs.declared.clause.Op.TheVariants as op
@@ -109,7 +110,7 @@ pub record IsInFront (text : List ℕ) (token : Token) (rest : List ℕ) : Type 
 abbrev pub excess : Token → Option QueryKind
 excess (t.Word word) = None
 excess (t.Number z) = if fits_128 z then None else Some kind.Literal
-excess (t.Text word) = if nat_lt 65535 (length word) then Some kind.TextLength else None
+excess (t.Text word) = if nat_lt most_text (length word) then Some kind.TextLength else None
 excess (t.Sign s) = None
 
 -- a token at this place, within the limits

@@ -1,7 +1,7 @@
 //! How deep tokens nest.
 
 ghost use Rattle.std.specs.Prelude.{◌≡◌, ◌≤◌};
-ghost use Rattle.where_grammar.specs.Nesting.{is_crowded, is_deep, is_much_negated, is_not, is_sign, is_word, same_sign};
+ghost use Rattle.where_grammar.specs.Nesting.{is_deep, is_not, is_sign, is_word, same_sign};
 ghost use Rattle.where_grammar.specs.Parsing.{bare};
 
 use crate::token::{Placed, Sign, Token};
@@ -49,51 +49,36 @@ fn same_sign(a: Sign, b: Sign) -> bool
     )
 }
 
-/// The most open parentheses, and the most `not`s in a row.
-const MAX_OPEN: usize = 64;
+/// The most open parentheses.
+pub(crate) const MAX_OPEN: u32 = 64;
 
-const MAX_NOTS: usize = 16;
+/// The most `not`s in a row.
+const MAX_NOTS: u32 = 16;
 
-/// Whether more parentheses are open at some token than there is room for. Those that close make room, also where
-/// none is open.
-fn is_crowded(tokens: &[Placed]) -> bool
-    ensures { result ≡ is_crowded 64 (bare tokens.now) }
+/// Whether the tokens nest too deep for a query. Parentheses that close make room, also where none is open.
+pub(crate) fn is_deep(tokens: &[Placed]) -> bool
+    ensures { result ≡ is_deep (bare tokens.now) }
 {
-    let mut room = MAX_OPEN;
-    for placed in tokens {
-        if placed.token.is_sign(Sign::Open) {
-            if room == 0 {
-                return true;
-            }
-            room -= 1;
-        } else if placed.token.is_sign(Sign::Close) {
-            room += 1;
-        }
-    }
-    false
-}
-
-/// Whether more than 16 `not`s stand in a row.
-fn is_much_negated(tokens: &[Placed]) -> bool
-    ensures { result ≡ is_much_negated 0 (bare tokens.now) }
-{
+    let mut room = MAX_OPEN as usize;
     let mut nots = 0;
     for placed in tokens {
-        if placed.token.is_not() {
+        let token = &placed.token;
+        if token.is_not() {
             if nots == MAX_NOTS {
                 return true;
             }
             nots += 1;
         } else {
             nots = 0;
+            if token.is_sign(Sign::Open) {
+                if room == 0 {
+                    return true;
+                }
+                room -= 1;
+            } else if token.is_sign(Sign::Close) {
+                room += 1;
+            }
         }
     }
     false
-}
-
-/// Whether the tokens nest too deep for a query.
-pub(crate) fn is_deep(tokens: &[Placed]) -> bool
-    ensures { result ≡ is_deep (bare tokens.now) }
-{
-    is_crowded(tokens) || is_much_negated(tokens)
 }

@@ -8,12 +8,14 @@ ghost use Rattle.where_grammar.specs.declared.token.Token.{Token};
 ghost use Rattle.where_grammar.specs.Grammar.{IsClause, group, joins};
 ghost use Rattle.answers.specs.Answers.{Answers, Tells};
 ghost use Rattle.where_grammar.specs.Language.{FollowsWhere, IsNoClause, NoClause, SpellsClause, after_where, clause_read, read_where, refusal};
+ghost use Rattle.where_grammar.specs.Limits.{most_open};
 ghost use Rattle.where_grammar.specs.Nesting.{is_crowded};
-ghost use Rattle.where_grammar.specs.Parsing.{after, bare, clause_of, clause_within, commas_before_close, enclosed_at, is_long, joined_at, long_of, not_times, nots_at, part_at, parts_behind, seen_at, unit_at};
+ghost use Rattle.where_grammar.specs.Parsing.{after, bare, clause_of, clause_within, commas_before_close, enclosed_at, is_long, is_tighter, joined_at, long_of, not_times, nots_at, part_at, part_from, part_goes_on, parts_behind, seen_at, unit_at};
 
 use crate::atoms::atom_from;
 use crate::clause::{Clause, ClauseFault, ClauseRead, Join, QueryKind, bad};
 use crate::fronts::{after_sign, first, nots_len};
+use crate::nesting::MAX_OPEN;
 use crate::token::{Placed, Sign, Token, tokens, word_len};
 use lexing::blanks_len;
 use sqlite_items::{Boxed, Items};
@@ -39,6 +41,26 @@ fn joins(join: Join, token: &Token) -> bool
     }
 }
 
+fn is_tighter(join: Join, token: &Token) -> bool
+    ensures { result ≡ is_tighter join token.now }
+{
+    match join {
+        Join::Or => joins(Join::Xor, token) || joins(Join::And, token),
+        Join::Xor => joins(Join::And, token),
+        Join::And => false,
+    }
+}
+
+/// Whether a part of this level goes on behind its first unit.
+fn part_goes_on(join: Join, tokens: &[Placed]) -> bool
+    ensures { result ≡ part_goes_on join (bare tokens.now) }
+{
+    match tokens {
+        [] => false,
+        [next, ..] => is_tighter(join, &next.token),
+    }
+}
+
 fn group(join: Join, parts: Items<Clause>) -> Clause
     ensures { result ≡ group join parts }
 {
@@ -49,18 +71,17 @@ fn group(join: Join, parts: Items<Clause>) -> Clause
     }
 }
 
-/// Parts of this level, joined.
+/// Parts joined by `or`.
 #[cycle(clauses)]
 fn joined(
     alloc: Global,
-    join: Join,
     depth: u32,
     tokens: &[Placed],
 ) -> Result<Option<(Clause, &[Placed])>, AllocError>
-    ensures { IfOk result (λ found. seen_at found ≡ joined_at join (part_at join (clause_within depth)) (bare tokens.now)) }
+    ensures { IfOk result (λ found. seen_at found ≡ joined_at Join.Or (part_at Join.Or (clause_within depth)) (bare tokens.now)) }
 {
-    match part(alloc, join, depth, tokens)? {
-        Some((first, rest)) => more_joined(alloc, join, depth, first, rest),
+    match part(alloc, Join::Or, depth, tokens)? {
+        Some((first, rest)) => more_joined(alloc, Join::Or, depth, first, rest),
         None => Ok(None),
     }
 }
@@ -94,7 +115,7 @@ fn more_joined(
     Ok(Some((group(join, parts), rest)))
 }
 
-/// One part of this level: parts of the next tighter one, joined, or a unit behind `not`s.
+/// One part of this level. Most are one unit, which isn't handed through each tighter level.
 #[cycle(clauses)]
 fn part(
     alloc: Global,
@@ -104,10 +125,36 @@ fn part(
 ) -> Result<Option<(Clause, &[Placed])>, AllocError>
     ensures { IfOk result (λ found. seen_at found ≡ part_at join (clause_within depth) (bare tokens.now)) }
 {
+    match nots(alloc, depth, tokens)? {
+        Some((first, rest)) => {
+            if part_goes_on(join, rest) {
+                part_from(alloc, join, depth, first, rest)
+            } else {
+                Ok(Some((first, rest)))
+            }
+        }
+        None => Ok(None),
+    }
+}
+
+/// A part of this level from its first unit on.
+#[cycle(clauses)]
+fn part_from(
+    alloc: Global,
+    join: Join,
+    depth: u32,
+    first: Clause,
+    tokens: &[Placed],
+) -> Result<Option<(Clause, &[Placed])>, AllocError>
+    ensures { IfOk result (λ found. seen_at found ≡ part_from join (clause_within depth) first (bare tokens.now)) }
+{
     match join {
-        Join::Or => joined(alloc, Join::Xor, depth, tokens),
-        Join::Xor => joined(alloc, Join::And, depth, tokens),
-        Join::And => nots(alloc, depth, tokens),
+        Join::Or => match more_joined(alloc, Join::And, depth, first, tokens)? {
+            Some((first, rest)) => more_joined(alloc, Join::Xor, depth, first, rest),
+            None => Ok(None),
+        },
+        Join::Xor => more_joined(alloc, Join::And, depth, first, tokens),
+        Join::And => Ok(Some((first, tokens))),
     }
 }
 
@@ -121,9 +168,25 @@ fn nots(
     ensures { IfOk result (λ found. seen_at found ≡ nots_at (clause_within depth) (bare tokens.now)) }
 {
     let n = nots_len(tokens);
-    match unit(alloc, depth, tokens.split_at(n).1)? {
+    if n == 0 {
+        return unit(alloc, depth, tokens);
+    }
+    negated(alloc, depth, n, tokens.split_at(n).1)
+}
+
+/// A unit, negated so many times.
+#[cycle(clauses)]
+fn negated(
+    alloc: Global,
+    depth: u32,
+    times: usize,
+    tokens: &[Placed],
+) -> Result<Option<(Clause, &[Placed])>, AllocError>
+    ensures { IfOk result (λ found. seen_at found ≡ option_map (λ f. (not_times times f.0, f.1)) (unit_at (clause_within depth) (bare tokens.now))) }
+{
+    match unit(alloc, depth, tokens)? {
         Some((clause, rest)) => {
-            let clause = not_times(alloc, n, clause)?;
+            let clause = not_times(alloc, times, clause)?;
             Ok(Some((clause, rest)))
         }
         None => Ok(None),
@@ -176,7 +239,7 @@ fn enclosed(
     if depth == 0 {
         return Ok(None);
     }
-    match joined(alloc, Join::Or, depth - 1, tokens)? {
+    match joined(alloc, depth - 1, tokens)? {
         Some((clause, rest)) => match after_sign(rest, Sign::Close) {
             Some(rest) => Ok(Some((clause, rest))),
             None => Ok(None),
@@ -226,14 +289,11 @@ fn long_of(tokens: &[Placed]) -> Option<u32>
     None
 }
 
-/// The most open parentheses.
-const MAX_OPEN: u32 = 64;
-
 #[tactic(auto, unfolding(crate::specs::Parsing::clause_of))]
 fn whole(alloc: Global, tokens: &[Placed]) -> Result<Option<Clause>, AllocError>
     ensures { IfOk result (λ found. found ≡ clause_of (bare tokens.now)) }
 {
-    match joined(alloc, Join::Or, MAX_OPEN, tokens)? {
+    match joined(alloc, MAX_OPEN, tokens)? {
         Some((clause, rest)) => match rest {
             [] => Ok(Some(clause)),
             [_, ..] => Ok(None),
@@ -257,7 +317,7 @@ fn clause_read(alloc: Global, tokens: &[Placed]) -> Result<ClauseRead, ClauseFau
 /// The clause that the tokens are. They stand one after the other in a list that `tokens` gives, and no more than 64
 /// of their parentheses are open at a place. `Syntax` comes exactly where they are no clause.
 pub fn clause_of(alloc: Global, tokens: &[Placed]) -> Result<ClauseRead, ClauseFault>
-    requires { is_crowded 64 (bare tokens.now) ≡ false }
+    requires { is_crowded most_open (bare tokens.now) ≡ false }
     ensures found { IfOk result (λ read. IsClause read.clause (bare tokens.now)) }
     ensures long { IfOk result (λ read. read.long ≡ long_of tokens.now) }
     ensures only { (c : Clause) → IsClause c (bare tokens.now) → Answers refusal result (Ok (record { clause = c; long = long_of tokens.now })) }

@@ -99,8 +99,7 @@ fn number_at(is_negative: bool, text: &[u8]) -> Result<(Token, &[u8]), QueryKind
 fn lowered(alloc: Global, bytes: &[u8]) -> Result<Label, AllocError>
     ensures { IfOk result (λ word. word ≡ str_to_ascii_lowercase bytes.now) }
 {
-    let bytes = bytes.iter().map(|b| b.to_ascii_lowercase()).collect(alloc)?;
-    Ok(Label::from_vec(bytes))
+    Ok(Label::from_vec(bytes.to_ascii_lowercase(alloc)?))
 }
 
 /// The word at the front, in lower case, and what follows it.

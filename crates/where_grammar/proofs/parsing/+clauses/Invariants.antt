@@ -10,17 +10,23 @@ decreases-enclosed l = 16 * l.depth
 abbrev pub decreases-unit : goal.decreases-unit
 decreases-unit l = 16 * l.depth + 1
 
+abbrev pub decreases-negated : goal.decreases-negated
+decreases-negated l = 16 * l.depth + 2
+
 abbrev pub decreases-nots : goal.decreases-nots
-decreases-nots l = 16 * l.depth + 2
+decreases-nots l = 16 * l.depth + 3
+
+abbrev pub decreases-part_from : goal.decreases-part_from
+decreases-part_from l = 16 * l.depth + (3 * rank l.join + 4)
 
 abbrev pub decreases-part : goal.decreases-part
-decreases-part l = 16 * l.depth + (3 * rank l.join + 3)
+decreases-part l = 16 * l.depth + (3 * rank l.join + 5)
 
 abbrev pub decreases-more_joined : goal.decreases-more_joined
-decreases-more_joined l = 16 * l.depth + (3 * rank l.join + 4)
+decreases-more_joined l = 16 * l.depth + (3 * rank l.join + 6)
 
 abbrev pub decreases-joined : goal.decreases-joined
-decreases-joined l = 16 * l.depth + (3 * rank l.join + 5)
+decreases-joined l = 16 * l.depth + 13
 
 abbrev pub invariant-more_joined-loop-behind : goal.invariant-more_joined-loop-behind
 invariant-more_joined-loop-behind l = record {

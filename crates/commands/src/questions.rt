@@ -13,7 +13,7 @@ use command_words::Task;
 use fb_outside::{FileName, Sink, Store};
 use fb_types::Label;
 use ibis::{count, list};
-use statuses::{Status, Stop};
+use statuses::{Status, Unanswered};
 use std::alloc::Global;
 use std::sync::ledger::Ledger;
 use steps::Steps;
@@ -64,10 +64,9 @@ fn run_count<S: Store, K: Sink, L: Ledger>(
 {
     match count(alloc, dir, query, store, steps) {
         Ok(hits) => print_hits(alloc, out, hits),
-        Err(Stop::Refused(status)) => refuse(alloc, out, status),
-        Err(Stop::ReadFault) => unreachable!(),
-        Err(Stop::StoreFault) => Status::StoreFault,
-        Err(Stop::OutOfMemory) => Status::OutOfMemory,
+        Err(Unanswered::Refused(status)) => refuse(alloc, out, status),
+        Err(Unanswered::StoreFault) => Status::StoreFault,
+        Err(Unanswered::OutOfMemory) => Status::OutOfMemory,
     }
 }
 
@@ -82,9 +81,8 @@ fn run_list<S: Store, K: Sink>(alloc: Global, dir: &FileName, store: &mut S, out
 {
     match list(alloc, dir, store) {
         Ok(text) => print_text(out, text.as_slice(), Status::Done),
-        Err(Stop::Refused(status)) => refuse(alloc, out, status),
-        Err(Stop::ReadFault) => unreachable!(),
-        Err(Stop::StoreFault) => Status::StoreFault,
-        Err(Stop::OutOfMemory) => Status::OutOfMemory,
+        Err(Unanswered::Refused(status)) => refuse(alloc, out, status),
+        Err(Unanswered::StoreFault) => Status::StoreFault,
+        Err(Unanswered::OutOfMemory) => Status::OutOfMemory,
     }
 }

@@ -28,7 +28,7 @@ use Rattle.dataset.specs.declared.fault.DamageKind.TheVariants.{Length}
 use Rattle.dataset.specs.declared.fault.PartFault.{PartFault}
 use Rattle.dataset.specs.declared.fault.PartFault.TheVariants as part_
 use Rattle.dataset.proofs.ListLemmas.{All-at, map-at}
-use Rattle.statuses.specs.declared.stop.Stop.TheVariants.{Refused}
+use Rattle.statuses.specs.declared.stop.Unanswered.TheVariants.{Refused}
 use Rattle.ibis.specs.declared.rows.RowsFault.{RowsFault}
 use Rattle.ibis.specs.declared.rows.RowsFault.TheVariants.{Short, Store}
 use Rattle.ibis.specs.Count.{damaged_status}

@@ -12,8 +12,8 @@ use Rattle.fb_types.specs.Schemas.{place_of}
 use Rattle.fb_types.specs.Types.{ends_of}
 use Rattle.dataset.specs.declared.content.Dataset.{Dataset}
 use Rattle.statuses.specs.declared.Status.{Status}
-use Rattle.statuses.specs.declared.stop.Stop.{Stop}
-use Rattle.statuses.specs.declared.stop.Stop.TheVariants.{Refused, ReadFault, StoreFault, OutOfMemory}
+use Rattle.statuses.specs.declared.stop.Unanswered.{Unanswered}
+use Rattle.statuses.specs.declared.stop.Unanswered.TheVariants.{Refused, StoreFault, OutOfMemory}
 use Rattle.statuses.specs.Outcome.{◌>>=◌}
 use Rattle.ibis.specs.declared.query.Below.{Below}
 use Rattle.ibis.specs.Listing.{ListComes, ListGives, list_result, listing}
@@ -49,10 +49,9 @@ module _ (schema : List Column) (below : Below) (column : Column) where
 
 -- ---- a listing
 
-pub listing_stops : (dir : List ℕ) (files : Option Files) (stop : Stop) → Finds dir files (Err stop) → ListGives dir files (Err stop)
+pub listing_stops : (dir : List ℕ) (files : Option Files) (stop : Unanswered) → Finds dir files (Err stop) → ListGives dir files (Err stop)
 unfolding list_result
 listing_stops dir files (Refused status) h = record { found = h.found; told = h.told; is = rw h.is refl }
-listing_stops dir files ReadFault h = h
 listing_stops dir files StoreFault h = h
 listing_stops dir files OutOfMemory h = h
 
@@ -63,6 +62,6 @@ listing_comes dir files dataset text h e = record { found = h.found; told = h.to
 
 -- ---- a step that may stop
 
-pub stops_where : (files : Option Files) (dataset : Dataset) (name : List ℕ) (result : Result ℕ Stop) → IfErr result (StopsIn files dataset name)
-    → (stop : Stop) → result ≡ Err stop → StopsIn files dataset name stop
-stops_where files dataset name result h stop e = subst (λ (r : Result ℕ Stop). IfErr r (StopsIn files dataset name)) e h
+pub stops_where : (files : Option Files) (dataset : Dataset) (name : List ℕ) (result : Result ℕ Unanswered) → IfErr result (StopsIn files dataset name)
+    → (stop : Unanswered) → result ≡ Err stop → StopsIn files dataset name stop
+stops_where files dataset name result h stop e = subst (λ (r : Result ℕ Unanswered). IfErr r (StopsIn files dataset name)) e h

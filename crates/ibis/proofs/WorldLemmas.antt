@@ -32,8 +32,8 @@ use Rattle.dataset.proofs.FitLemmas.{cells_fit}
 use Rattle.dataset.proofs.WorldLemmas.{found_is}
 use Rattle.statuses.specs.declared.Status.{Status}
 use Rattle.statuses.specs.declared.Status.TheVariants.{BadQuery}
-use Rattle.statuses.specs.declared.stop.Stop.{Stop}
-use Rattle.statuses.specs.declared.stop.Stop.TheVariants.{Refused, ReadFault, StoreFault, OutOfMemory}
+use Rattle.statuses.specs.declared.stop.Unanswered.{Unanswered}
+use Rattle.statuses.specs.declared.stop.Unanswered.TheVariants.{Refused, StoreFault, OutOfMemory}
 use Rattle.statuses.specs.Outcome.{◌>>=◌}
 use Rattle.ibis.specs.declared.query.Below.{Below}
 use Rattle.ibis.specs.Count.{CountComes, CountGives, CountsBy, CountsRecords, IsCountIn, IsDamagedIn, asked_of, counted, damaged_status, dataset_or_refusal, hits}
@@ -89,10 +89,9 @@ module _ (dir query text : List ℕ) (files : Option Files) (below : Below) (sam
   when_read : (P : Type 0) → P → IfOk (read_query query) (λ (b : Below). P)
   when_read P h = subst (λ (r : Result Below QueryKind). IfOk r (λ (b : Below). P)) (sym read) h
 
-  pub opening_stops : (stop : Stop) → Finds dir files (Err stop) → CountGives dir query files (Err stop)
+  pub opening_stops : (stop : Unanswered) → Finds dir files (Err stop) → CountGives dir query files (Err stop)
   opening_stops (Refused status) h =
       comes_refused dir query files h.found status (when_read (IfSome files (λ m. IsFound m dir h.found)) h.told) (asked_unopened dir query h.found below status read h.is)
-  opening_stops ReadFault h = h
   opening_stops StoreFault h = tt
   opening_stops OutOfMemory h = tt
 
@@ -114,8 +113,8 @@ module _ (dir query text : List ℕ) (files : Option Files) (below : Below) (sam
           counts = subst (λ (r : Result Below Status). CountsBy files (There dataset) r result) (sym (asked_there dir query dataset below read ∙ e)) h;
         }
 
-    pub count_comes : (column : Column) (after : Option Files) (result : Result ℕ Stop) → after ≡ files → IsAsked dataset.schema below column
-        → ((stop : Stop) → result ≡ Err stop → StopsIn after dataset column.name stop) → CountGives dir query files result
+    pub count_comes : (column : Column) (after : Option Files) (result : Result ℕ Unanswered) → after ≡ files → IsAsked dataset.schema below column
+        → ((stop : Unanswered) → result ≡ Err stop → StopsIn after dataset column.name stop) → CountGives dir query files result
     count_comes column after (Ok count) kept is stops = comes_asked (Ok count) is.resolves tt
     count_comes column after (Err (Refused status)) kept is stops =
         let h = stops (Refused status) refl in
@@ -123,7 +122,6 @@ module _ (dir query text : List ℕ) (files : Option Files) (below : Below) (sam
         subst (λ (f : Option Files). IfSome f (λ m. IsColumnDamaged m dataset below.name h.0)) kept
         (subst (λ (n : List ℕ). IfSome after (λ m. IsColumnDamaged m dataset n h.0)) is.named h.2) in
         comes_asked (Err status) is.resolves (h.0, h.1, named)
-    count_comes column after (Err ReadFault) kept is stops = stops ReadFault refl
     count_comes column after (Err StoreFault) kept is stops = tt
     count_comes column after (Err OutOfMemory) kept is stops = tt
 
@@ -249,7 +247,7 @@ module _ (m : Files) (world : World) (dir : List ℕ) (stands : Stands m world) 
   list_is result h = ap (list_result dir) (sym (found_is m world dir h.found stands path h.told)) ∙ h.is
 
 -- the count of a question is that of the world's records
-pub counts_records : (dir query text : List ℕ) (files after : Option Files) (below : Below) (dataset : Dataset) (column : Column) (result : Result ℕ Stop)
+pub counts_records : (dir query text : List ℕ) (files after : Option Files) (below : Below) (dataset : Dataset) (column : Column) (result : Result ℕ Unanswered)
     → text ≡ query → read_query text ≡ Ok below → IsPath dir → Finds dir files (Ok dataset) → after ≡ files → IsAsked dataset.schema below column
     → ((m : Files) (col : ℕ) (parts : List Partition) → after ≡ Some m → HasParts m dataset column col parts
     → IfOk result (λ hits. hits ≡ passing below.limit (cells_in_parts col parts)))

@@ -13,8 +13,8 @@ use Rattle.world.specs.Stands.{StandsFor}
 use Rattle.world.specs.World.{Content, World, content_at, records_of}
 use Rattle.statuses.specs.declared.Status.{Status}
 use Rattle.statuses.specs.declared.Status.TheVariants.{Done, NoDataset, Damaged}
-use Rattle.statuses.specs.declared.stop.Stop.{Stop}
-use Rattle.statuses.specs.declared.stop.Stop.TheVariants.{Refused, ReadFault, StoreFault, OutOfMemory}
+use Rattle.statuses.specs.declared.stop.Unanswered.{Unanswered}
+use Rattle.statuses.specs.declared.stop.Unanswered.TheVariants.{Refused, StoreFault, OutOfMemory}
 use Rattle.statuses.specs.Outcome.{◌>>=◌, Outcome, refused}
 use Rattle.ibis.specs.declared.query.Below.{Below}
 use Rattle.ibis.specs.Query.{clause_of, query_or_refusal, read_query, resolved}
@@ -83,10 +83,9 @@ pub record CountComes (dir query : List ℕ) (files : Option Files) (result : Re
   pub counts : CountsBy files found (asked_of dir query found) result
 
 -- and of a command that may stop
-abbrev pub CountGives : (dir query : List ℕ) → Option Files → Result ℕ Stop → Type 0
+abbrev pub CountGives : (dir query : List ℕ) → Option Files → Result ℕ Unanswered → Type 0
 CountGives dir query files (Ok count) = CountComes dir query files (Ok count)
 CountGives dir query files (Err (Refused status)) = CountComes dir query files (Err status)
-CountGives dir query files (Err ReadFault) = ⊥
 CountGives dir query files (Err StoreFault) = ⊤
 CountGives dir query files (Err OutOfMemory) = ⊤
 
@@ -95,6 +94,6 @@ CountGives dir query files (Err OutOfMemory) = ⊤
 abbrev pub IsCountIn : (dir query : List ℕ) → World → ℕ → Type 0
 IsCountIn dir query world count = counted (asked_of dir query (found_in world dir)) (content_at world dir) ≡ Ok count
 
-abbrev pub CountsRecords : (dir query : List ℕ) → Option Files → Result ℕ Stop → Type 0
+abbrev pub CountsRecords : (dir query : List ℕ) → Option Files → Result ℕ Unanswered → Type 0
 CountsRecords dir query files result =
     (world : World) → StandsFor files world → IfOk result (IsCountIn dir query world)

@@ -11,8 +11,8 @@ use Rattle.dataset.specs.declared.content.Dataset.{Dataset}
 use Rattle.world.specs.World.{World}
 use Rattle.statuses.specs.declared.Status.{Status}
 use Rattle.statuses.specs.declared.Status.TheVariants.{Done}
-use Rattle.statuses.specs.declared.stop.Stop.{Stop}
-use Rattle.statuses.specs.declared.stop.Stop.TheVariants.{Refused, ReadFault, StoreFault, OutOfMemory}
+use Rattle.statuses.specs.declared.stop.Unanswered.{Unanswered}
+use Rattle.statuses.specs.declared.stop.Unanswered.TheVariants.{Refused, StoreFault, OutOfMemory}
 use Rattle.statuses.specs.Outcome.{◌>>=◌, Outcome, refused}
 use Rattle.ibis.specs.Count.{dataset_or_refusal}
 
@@ -47,14 +47,13 @@ pub record ListComes (dir : List ℕ) (files : Option Files) (result : Result (L
   pub is : list_result dir found ≡ result
 
 -- the same of a command that may stop
-abbrev pub ListGives : List ℕ → Option Files → Result (List ℕ) Stop → Type 0
+abbrev pub ListGives : List ℕ → Option Files → Result (List ℕ) Unanswered → Type 0
 ListGives dir files (Ok text) = ListComes dir files (Ok text)
 ListGives dir files (Err (Refused status)) = ListComes dir files (Err status)
-ListGives dir files (Err ReadFault) = ⊥
 ListGives dir files (Err StoreFault) = ⊤
 ListGives dir files (Err OutOfMemory) = ⊤
 
 -- the bytes of what was given
-abbrev pub text_of : {A : Type 0} → Result (Vec ℕ A) Stop → Result (List ℕ) Stop
+abbrev pub text_of : {A : Type 0} → Result (Vec ℕ A) Unanswered → Result (List ℕ) Unanswered
 text_of (Ok text) = Ok text.items
 text_of (Err stop) = Err stop

@@ -16,8 +16,8 @@ use Rattle.dataset.specs.declared.fault.PartFault.{PartFault}
 use Rattle.dataset.specs.declared.fault.PartFault.TheVariants as part
 use Rattle.statuses.specs.declared.Status.{Status}
 use Rattle.statuses.specs.declared.Status.TheVariants.{BadQuery}
-use Rattle.statuses.specs.declared.stop.Stop.{Stop}
-use Rattle.statuses.specs.declared.stop.Stop.TheVariants.{Refused, ReadFault, StoreFault, OutOfMemory}
+use Rattle.statuses.specs.declared.stop.Unanswered.{Unanswered}
+use Rattle.statuses.specs.declared.stop.Unanswered.TheVariants.{Refused, StoreFault, OutOfMemory}
 use Rattle.ibis.specs.declared.query.Below.{Below}
 use Rattle.ibis.specs.declared.query.NameFault.{NameFault}
 use Rattle.ibis.specs.declared.query.NameFault.TheVariants as fault
@@ -30,7 +30,7 @@ abbrev pub asked_as : Option Below → Result Below QueryKind
 asked_as None = Err Syntax
 asked_as (Some below) = Ok below
 
-abbrev pub stop_of_text : ClauseFault → Stop
+abbrev pub stop_of_text : ClauseFault → Unanswered
 stop_of_text (text.Bad kind) = Refused (BadQuery kind)
 stop_of_text text.OutOfMemory = OutOfMemory
 
@@ -42,10 +42,9 @@ pub record Opened (dir : List ℕ) (files : Option Files) (result : Result Datas
   pub told : IfSome files (λ m. IsFound m dir found)
   pub is : dataset_or_refusal dir found ≡ result
 
-abbrev pub Finds : List ℕ → Option Files → Result Dataset Stop → Type 0
+abbrev pub Finds : List ℕ → Option Files → Result Dataset Unanswered → Type 0
 Finds dir files (Ok dataset) = Opened dir files (Ok dataset)
 Finds dir files (Err (Refused status)) = Opened dir files (Err status)
-Finds dir files (Err ReadFault) = ⊥
 Finds dir files (Err StoreFault) = ⊤
 Finds dir files (Err OutOfMemory) = ⊤
 
@@ -67,16 +66,15 @@ Resolves schema below (Err fault.WrongType) = resolved schema below ≡ Err (Bad
 
 -- ---- the column's files
 
-abbrev pub stop_of_part : PartFault → Stop
+abbrev pub stop_of_part : PartFault → Unanswered
 stop_of_part (part.Damaged file kind want have) =
     Refused (damaged_status (record { file = file; kind = kind; want = want; have = have }))
 stop_of_part part.Store = StoreFault
 stop_of_part part.OutOfMemory = OutOfMemory
 
 -- a column of that name is damaged in a part of the dataset, or the outside failed, or memory ran out
-abbrev pub StopsIn : Option Files → Dataset → List ℕ → Stop → Type 0
+abbrev pub StopsIn : Option Files → Dataset → List ℕ → Unanswered → Type 0
 StopsIn files dataset name (Refused status) =
     (damage : Damage) × (status ≡ damaged_status damage) × IfSome files (λ m. IsColumnDamaged m dataset name damage)
-StopsIn files dataset name ReadFault = ⊥
 StopsIn files dataset name StoreFault = ⊤
 StopsIn files dataset name OutOfMemory = ⊤

@@ -22,7 +22,7 @@ use dataset::{DamageKind, Dataset, open_part_column};
 use fb_outside::{FileName, Store};
 use fb_types::{Column, Label};
 use part_meta::PartMeta;
-use statuses::Stop;
+use statuses::Unanswered;
 use std::alloc::Global;
 use std::sync::ledger::Ledger;
 use steps::Steps;
@@ -35,10 +35,10 @@ pub fn count<S: Store, L: Ledger>(
     query: &Label,
     store: &mut S,
     steps: &mut Steps<L>,
-) -> Result<u64, Stop>
+) -> Result<u64, Unanswered>
     requires path { IsPath dir.now }
     requires text { IsUtf8 query.now }
-    ensures cause { HasCause (S.faults store.old) (S.faults store.new) (IsErrOf result Stop.StoreFault) }
+    ensures cause { HasCause (S.faults store.old) (S.faults store.new) (IsErrOf result Unanswered.StoreFault) }
     ensures files { SameFiles (S.files store.old) (S.files store.new) }
     ensures gives { CountGives dir.now query.now (S.files store.old) result }
 
@@ -46,7 +46,7 @@ pub fn count<S: Store, L: Ledger>(
     ensures counted { CountsRecords dir.now query.now (S.files store.old) result }
 
     // The store is asked where the query's text isn't refused.
-    ensures asks_store { IsErrOf result Stop.StoreFault → is_ok (read_query query.now) ≡ true }
+    ensures asks_store { IsErrOf result Unanswered.StoreFault → is_ok (read_query query.now) ≡ true }
 {
     let Ok(text) = str::from_utf8(query.bytes()) else {
         unreachable!()
@@ -74,11 +74,11 @@ fn count_parts<S: Store, L: Ledger>(
     column: &Column,
     below: &Below,
     steps: &mut Steps<L>,
-) -> Result<u64, Stop>
+) -> Result<u64, Unanswered>
     requires valid { IsDataset dataset.now }
     requires in_schema { (col : ℕ) × (slice_get dataset.now.schema col ≡ Some column.now) }
     requires whole { IsSome (ends_of column.now.ty) }
-    ensures cause { HasCause (S.faults store.old) (S.faults store.new) (IsErrOf result Stop.StoreFault) }
+    ensures cause { HasCause (S.faults store.old) (S.faults store.new) (IsErrOf result Unanswered.StoreFault) }
     ensures files { SameFiles (S.files store.old) (S.files store.new) }
     ensures stop { IfErr result (StopsIn (S.files store.old) dataset.now column.now.name) }
     ensures counts { (m : Files) (col : ℕ) (parts : List Partition) → S.files store.old ≡ Some m → HasParts m dataset.now column.now col parts
@@ -100,14 +100,14 @@ fn count_part<S: Store, L: Ledger>(
     column: &Column,
     below: &Below,
     steps: &mut Steps<L>,
-) -> Result<u64, Stop>
+) -> Result<u64, Unanswered>
     requires path { IsPath dataset.now.dir }
     requires number { part.now.number < 4096 }
     requires rows { part.now.rows ≤ most_rows }
     requires listed { (place : ℕ) × (slice_get dataset.now.parts place ≡ Some part.now) }
     requires in_schema { (col : ℕ) × (slice_get dataset.now.schema col ≡ Some column.now) }
     requires whole { IsSome (ends_of column.now.ty) }
-    ensures cause { HasCause (S.faults store.old) (S.faults store.new) (IsErrOf result Stop.StoreFault) }
+    ensures cause { HasCause (S.faults store.old) (S.faults store.new) (IsErrOf result Unanswered.StoreFault) }
     ensures files { SameFiles (S.files store.old) (S.files store.new) }
     ensures few { IfOk result (λ hits. hits ≤ part.now.rows) }
     ensures stop { IfErr result (StopsIn (S.files store.old) dataset.now column.now.name) }
@@ -123,6 +123,6 @@ fn count_part<S: Store, L: Ledger>(
         Err(RowsFault::Short { want, have }) => {
             Err(damaged(found.name, DamageKind::Length, want, have))
         }
-        Err(RowsFault::Store) => Err(Stop::StoreFault),
+        Err(RowsFault::Store) => Err(Unanswered::StoreFault),
     }
 }

@@ -11,13 +11,13 @@ use dataset::Dataset;
 use fb_outside::{FileName, Store};
 use fb_types::{Schema, print_schema};
 use part_meta::PartMeta;
-use statuses::Stop;
+use statuses::Unanswered;
 use std::alloc::{AllocError, Global};
 
 /// The lines of the schema and of the parts of the dataset at the path. No file changes.
-pub fn list<S: Store>(alloc: Global, dir: &FileName, store: &mut S) -> Result<Vec<u8>, Stop>
+pub fn list<S: Store>(alloc: Global, dir: &FileName, store: &mut S) -> Result<Vec<u8>, Unanswered>
     requires path { IsPath dir.now }
-    ensures cause { HasCause (S.faults store.old) (S.faults store.new) (IsErrOf result Stop.StoreFault) }
+    ensures cause { HasCause (S.faults store.old) (S.faults store.new) (IsErrOf result Unanswered.StoreFault) }
     ensures files { SameFiles (S.files store.old) (S.files store.new) }
     ensures gives { ListGives dir.now (S.files store.old) (text_of result) }
 {
@@ -27,7 +27,7 @@ pub fn list<S: Store>(alloc: Global, dir: &FileName, store: &mut S) -> Result<Ve
     };
     match dataset_text(alloc, &dataset) {
         Ok(text) => Ok(text),
-        Err(_) => Err(Stop::OutOfMemory),
+        Err(_) => Err(Unanswered::OutOfMemory),
     }
 }
 

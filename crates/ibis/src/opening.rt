@@ -11,7 +11,7 @@ ghost use Rattle.ibis.specs.Steps.{Finds, stop_of_part};
 use dataset::{DamageKind, Dataset, OpenFault, PartFault, open_dataset};
 use fb_outside::{FileName, Store};
 use part_meta::catalog_of;
-use statuses::{Status, Stop};
+use statuses::{Status, Unanswered};
 use std::alloc::Global;
 
 /// The dataset at the path.
@@ -19,9 +19,9 @@ pub(crate) fn opened<S: Store>(
     alloc: Global,
     store: &mut S,
     dir: &FileName,
-) -> Result<Dataset, Stop>
+) -> Result<Dataset, Unanswered>
     requires path { IsPath dir.now }
-    ensures cause { HasCause (S.faults store.old) (S.faults store.new) (IsErrOf result Stop.StoreFault) }
+    ensures cause { HasCause (S.faults store.old) (S.faults store.new) (IsErrOf result Unanswered.StoreFault) }
     ensures files { SameFiles (S.files store.old) (S.files store.new) }
     ensures valid { IfOk result IsDataset }
     ensures finds { Finds dir.now (S.files store.old) result }
@@ -30,7 +30,7 @@ pub(crate) fn opened<S: Store>(
         Ok(dataset) => Ok(dataset),
         Err(OpenFault::NoDataset) => {
             let file = catalog_of(alloc, dir)?;
-            Err(Stop::Refused(Status::NoDataset { file }))
+            Err(Unanswered::Refused(Status::NoDataset { file }))
         }
         Err(
             OpenFault::Damaged {
@@ -40,13 +40,13 @@ pub(crate) fn opened<S: Store>(
                 have,
             },
         ) => Err(damaged(file, kind, want, have)),
-        Err(OpenFault::Store) => Err(Stop::StoreFault),
-        Err(OpenFault::OutOfMemory) => Err(Stop::OutOfMemory),
+        Err(OpenFault::Store) => Err(Unanswered::StoreFault),
+        Err(OpenFault::OutOfMemory) => Err(Unanswered::OutOfMemory),
     }
 }
 
 /// The answer to a column that isn't opened.
-pub(crate) fn stop_of_part(fault: PartFault) -> Stop
+pub(crate) fn stop_of_part(fault: PartFault) -> Unanswered
     ensures { result ≡ stop_of_part fault }
 {
     match fault {
@@ -56,15 +56,15 @@ pub(crate) fn stop_of_part(fault: PartFault) -> Stop
             want,
             have,
         } => damaged(file, kind, want, have),
-        PartFault::Store => Stop::StoreFault,
-        PartFault::OutOfMemory => Stop::OutOfMemory,
+        PartFault::Store => Unanswered::StoreFault,
+        PartFault::OutOfMemory => Unanswered::OutOfMemory,
     }
 }
 
-pub(crate) fn damaged(file: FileName, kind: DamageKind, want: u64, have: u64) -> Stop
-    ensures { result ≡ Stop.Refused (damaged_status (record { file = file; kind = kind; want = want; have = have })) }
+pub(crate) fn damaged(file: FileName, kind: DamageKind, want: u64, have: u64) -> Unanswered
+    ensures { result ≡ Unanswered.Refused (damaged_status (record { file = file; kind = kind; want = want; have = have })) }
 {
-    Stop::Refused(Status::Damaged {
+    Unanswered::Refused(Status::Damaged {
         file,
         kind,
         want,

@@ -10,7 +10,7 @@ ghost use Rattle.ibis.specs.Query.{asked, column_in, less_than, read_query};
 ghost use Rattle.ibis.specs.Steps.{Resolves, asked_as, stop_of_text};
 
 use fb_types::{ColName, ColType, Column, Schema};
-use statuses::{Status, Stop};
+use statuses::{Status, Unanswered};
 use std::alloc::Global;
 use where_grammar::{Atom, Clause, ClauseFault, Op, QueryKind, after_where, parse_where};
 
@@ -79,19 +79,19 @@ fn syntax() -> ClauseFault
 }
 
 /// The answer to a query that isn't read.
-pub(crate) fn stop_of_text(fault: ClauseFault) -> Stop
+pub(crate) fn stop_of_text(fault: ClauseFault) -> Unanswered
     ensures { result ≡ stop_of_text fault }
 {
     match fault {
         ClauseFault::Bad { kind } => bad_query(kind),
-        ClauseFault::OutOfMemory => Stop::OutOfMemory,
+        ClauseFault::OutOfMemory => Unanswered::OutOfMemory,
     }
 }
 
-pub(crate) fn bad_query(kind: QueryKind) -> Stop
-    ensures { result ≡ Stop.Refused (Status.BadQuery kind) }
+pub(crate) fn bad_query(kind: QueryKind) -> Unanswered
+    ensures { result ≡ Unanswered.Refused (Status.BadQuery kind) }
 {
-    Stop::Refused(Status::BadQuery { kind })
+    Unanswered::Refused(Status::BadQuery { kind })
 }
 
 /// Why no column is asked for.

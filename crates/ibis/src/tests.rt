@@ -4,7 +4,7 @@ ghost use Rattle.fb_outside.specs.Names.{IsPath};
 use super::*;
 use fb_outside::{FileName, MemStore, Store};
 use fb_types::Label;
-use statuses::Stop;
+use statuses::Unanswered;
 use std::alloc::{AllocError, Global};
 use std::marker::Brand;
 use std::process::Abort;
@@ -76,7 +76,7 @@ fn counted<L: Ledger>(
     let mut steps = Steps::<L>::new(blank);
     match count(alloc, dir, &query, store, &mut steps) {
         Ok(hits) => Ok(Some(format!(in alloc; "{hits}\n")?)),
-        Err(Stop::Refused(status)) => Ok(Some(status.line(alloc)?)),
+        Err(Unanswered::Refused(status)) => Ok(Some(status.line(alloc)?)),
         Err(_) => Ok(None),
     }
 }

@@ -11,7 +11,7 @@ pub use dataset::DamageKind;
 use fb_outside::FileName;
 use fb_types::SchemaKind;
 use std::alloc::{AllocError, Global};
-pub use stop::Stop;
+pub use stop::{Stop, Unanswered};
 use where_grammar::QueryKind;
 
 /// Which limit a number passed.

@@ -74,9 +74,7 @@ fn bins_are_made(rt: HostRuntime) -> Result<(), Fail> {
     let alloc = rt.alloc();
     let values = [1, 2, 3, 4, 5, 6, 7, 8, 9, 10];
     let weight = Binning::Weight { count: 3 };
-    let found = numbers_of_bins::<Brand>(rt.blank(), alloc, &weight, &values)?.ok_or(
-        "too many",
-    )?;
+    let found = numbers_of_bins::<Brand>(rt.blank(), alloc, &weight, &values)?.ok_or("too many")?;
     let wanted = [1, 3, 0, 1, 2, 4, 6, 3, 4, 5, 7, 10, 6, 7, 8, 9];
     assert_eq!(rt; found.as_slice(), wanted.as_slice());
     let precision = Binning::Precision { digits: 1 };

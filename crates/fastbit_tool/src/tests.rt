@@ -10,25 +10,29 @@ use std::process::Abort;
 use std::test::Fail;
 use steps::{Blank, Count};
 
-/// Runs a command, and answers its status's number.
-fn answer<L: Ledger>(
-    alloc: Global,
-    blank: Blank,
-    words: &[&str],
-    input: &mut MemSource,
-    store: &mut MemStore,
-    out: &mut MemSink,
-) -> Result<u8, AllocError>
-    requires ledger { blank.name ≡ L.name }
-    requires parts { blank.parts ≡ L.parts }
-    requires some { 0 < blank.parts }
-{
+fn owned(alloc: Global, words: &[&str]) -> Result<Vec<String>, AllocError> {
     let mut owned = Vec::new(alloc);
     for word in words {
         owned.push(String::from_str(alloc, word)?)?;
     }
+    Ok(owned)
+}
+
+/// Runs a command, and answers its status's number.
+fn answer<L: Ledger>(
+    alloc: Global,
+    blank: Blank,
+    words: &[String],
+    input: &mut MemSource,
+    store: &mut MemStore,
+    out: &mut MemSink,
+) -> u8
+    requires ledger { blank.name ≡ L.name }
+    requires parts { blank.parts ≡ L.parts }
+    requires some { 0 < blank.parts }
+{
     let mut steps = Steps::<L>::new(blank);
-    Ok(run(alloc, &owned, input, store, out, &mut steps).code())
+    run(alloc, words, input, store, out, &mut steps).code()
 }
 
 /// What is run, and what its status's number and its printed text must be.
@@ -42,15 +46,18 @@ struct Case<'a> {
     printed: &'static str,
 }
 
-fn expect<R: Abort + AllocGlobal + Count>(
+fn expect<R: Abort + AllocGlobal>(
     rt: &R,
+    blank: Blank,
     store: &mut MemStore,
     case: &Case,
-) -> Result<(), AllocError> {
+) -> Result<(), AllocError>
+    requires { 0 < blank.parts }
+{
     let mut source = MemSource::make(rt.alloc(), case.input, 1 << 16, case.source_fails)?;
     let mut out = MemSink::make(rt.alloc(), case.sink_fails)?;
-    let words = case.words;
-    let code = answer::<Brand>(rt.alloc(), rt.blank(), words, &mut source, store, &mut out)?;
+    let words = owned(rt.alloc(), case.words)?;
+    let code = answer::<Brand>(rt.alloc(), blank, &words, &mut source, store, &mut out);
     assert!(rt; code == case.code, "{}", case.printed);
     assert!(rt;
         out.written() == case.printed.as_bytes(),
@@ -78,30 +85,37 @@ fn make_case<'a>(
 }
 
 /// Runs a load.
-fn expect_load<R: Abort + AllocGlobal + Count>(
+fn expect_load<R: Abort + AllocGlobal>(
     rt: &R,
+    blank: Blank,
     store: &mut MemStore,
     words: &'static [&'static str],
     input: &str,
     code: u8,
     printed: &'static str,
-) -> Result<(), AllocError> {
+) -> Result<(), AllocError>
+    requires { 0 < blank.parts }
+{
     expect(
         rt,
+        blank,
         store,
         &make_case(words, input.as_bytes(), code, printed),
     )
 }
 
 /// Runs a command that takes no input.
-fn expect_asked<R: Abort + AllocGlobal + Count>(
+fn expect_asked<R: Abort + AllocGlobal>(
     rt: &R,
+    blank: Blank,
     store: &mut MemStore,
     words: &'static [&'static str],
     code: u8,
     printed: &'static str,
-) -> Result<(), AllocError> {
-    expect(rt, store, &make_case(words, b"", code, printed))
+) -> Result<(), AllocError>
+    requires { 0 < blank.parts }
+{
+    expect(rt, blank, store, &make_case(words, b"", code, printed))
 }
 
 /// The file of this name has these bytes.
@@ -113,7 +127,7 @@ fn expect_file<R: Abort>(rt: &R, store: &MemStore, name: &str, bytes: &[u8]) {
 }
 
 /// Puts a file.
-fn keep<R: Abort + AllocGlobal + Count>(
+fn keep<R: Abort + AllocGlobal>(
     rt: &R,
     store: &mut MemStore,
     name: &str,
@@ -156,18 +170,18 @@ const LOG: &str =
 #[test]
 fn loads_of_all_types(rt: HostRuntime) -> Result<(), Fail> {
     let mut store = MemStore::make(rt.alloc(), &[], 0)?;
-    expect_load(&rt, &mut store, LOAD, "1\n", 0, "loaded 1 rows\n")?;
+    expect_load(&rt, rt.blank(), &mut store, LOAD, "1\n", 0, "loaded 1 rows\n")?;
     let differs = "error 4 schema differs at column 1\n";
-    expect_load(&rt, &mut store, LOAD_LONG, "2\n", 4, differs)?;
-    expect_load(&rt, &mut store, LOAD, "5\n7\n", 0, "loaded 2 rows\n")?;
-    expect_load(&rt, &mut store, LOAD_TWO, "1,\n", 0, "loaded 1 rows\n")?;
-    expect_load(&rt, &mut store, SKIP, "x\n4\n", 0, "loaded 1 rows\n")?;
+    expect_load(&rt, rt.blank(), &mut store, LOAD_LONG, "2\n", 4, differs)?;
+    expect_load(&rt, rt.blank(), &mut store, LOAD, "5\n7\n", 0, "loaded 2 rows\n")?;
+    expect_load(&rt, rt.blank(), &mut store, LOAD_TWO, "1,\n", 0, "loaded 1 rows\n")?;
+    expect_load(&rt, rt.blank(), &mut store, SKIP, "x\n4\n", 0, "loaded 1 rows\n")?;
     let range = "error 3 record 1 field 1 OutOfRange\n";
-    expect_load(&rt, &mut store, LOAD_BYTES, "128\n", 3, range)?;
-    expect_load(&rt, &mut store, LOAD_BYTES, "-128\n", 0, "loaded 1 rows\n")?;
+    expect_load(&rt, rt.blank(), &mut store, LOAD_BYTES, "128\n", 3, range)?;
+    expect_load(&rt, rt.blank(), &mut store, LOAD_BYTES, "-128\n", 0, "loaded 1 rows\n")?;
     let words = "1,x\n,\n 2 ,\"a,b\"\n";
-    expect_load(&rt, &mut store, WORDS, words, 0, "loaded 3 rows\n")?;
-    expect_load(&rt, &mut store, WEB_LOG, LOG, 0, "loaded 4 rows\n")?;
+    expect_load(&rt, rt.blank(), &mut store, WORDS, words, 0, "loaded 3 rows\n")?;
+    expect_load(&rt, rt.blank(), &mut store, WEB_LOG, LOG, 0, "loaded 4 rows\n")?;
     expect_file(
         &rt,
         &store,
@@ -188,17 +202,17 @@ fn loads_of_all_types(rt: HostRuntime) -> Result<(), Fail> {
 fn loads_cut_into_parts(rt: HostRuntime) -> Result<(), Fail> {
     let mut store = MemStore::make(rt.alloc(), &[], 0)?;
     let five = "1\n2\n3\n4\n5\n";
-    expect_load(&rt, &mut store, LOAD_PARTS, five, 0, "loaded 5 rows\n")?;
+    expect_load(&rt, rt.blank(), &mut store, LOAD_PARTS, five, 0, "loaded 5 rows\n")?;
     expect_file(&rt, &store, "P/p0000/a", b"\x01\0\0\0\x02\0\0\0");
     expect_file(&rt, &store, "P/p0001/a", b"\x03\0\0\0\x04\0\0\0");
     expect_file(&rt, &store, "P/p0002/a", b"\x05\0\0\0");
     let list = "schema a:int\npart 0 rows 2\npart 1 rows 2\npart 2 rows 1\n";
-    expect_asked(&rt, &mut store, &["ibis", "-l", "-d", "P"], 0, list)?;
+    expect_asked(&rt, rt.blank(), &mut store, &["ibis", "-l", "-d", "P"], 0, list)?;
     let below = &["ibis", "-d", "P", "-q", "where A < 4"];
-    expect_asked(&rt, &mut store, below, 0, "hits 3\n")?;
+    expect_asked(&rt, rt.blank(), &mut store, below, 0, "hits 3\n")?;
     let rows = &["ardea", "-d", "P", "-m", "a:int", "-p", "4194305"];
     let many = "error 9 limit rows 4194305 over 4194304\n";
-    expect_load(&rt, &mut store, rows, "x\n", 9, many)?;
+    expect_load(&rt, rt.blank(), &mut store, rows, "x\n", 9, many)?;
     Ok(())
 }
 
@@ -211,7 +225,7 @@ fn a_load_makes_at_most_1024_parts(rt: HostRuntime) -> Result<(), Fail> {
     }
     let parts = "error 9 limit parts 1025 over 1024\n";
     let words = &["ardea", "-d", "x", "-m", "a:int", "-p", "1"];
-    expect(&rt, &mut store, &make_case(words, &lines, 9, parts))?;
+    expect(&rt, rt.blank(), &mut store, &make_case(words, &lines, 9, parts))?;
     assert!(rt; store.name(0).is_none(), "a refused load writes nothing");
     Ok(())
 }
@@ -221,11 +235,11 @@ fn loads_of_a_file(rt: HostRuntime) -> Result<(), Fail> {
     let mut store = MemStore::make(rt.alloc(), &[], 0)?;
     keep(&rt, &mut store, "n.csv", b"3\n\"\"\n5\n")?;
     let load = &["ardea", "-d", "D", "-m", "a:int", "-t", "n.csv"];
-    expect_load(&rt, &mut store, load, "x", 0, "loaded 3 rows\n")?;
+    expect_load(&rt, rt.blank(), &mut store, load, "x", 0, "loaded 3 rows\n")?;
     let below = &["ibis", "-d", "D", "-q", "where a < 5"];
-    expect_asked(&rt, &mut store, below, 0, "hits 1\n")?;
+    expect_asked(&rt, rt.blank(), &mut store, below, 0, "hits 1\n")?;
     let absent = &["ardea", "-d", "D", "-m", "a:int", "-t", "m.csv"];
-    expect_load(&rt, &mut store, absent, "", 7, "error 7 missing m.csv\n")?;
+    expect_load(&rt, rt.blank(), &mut store, absent, "", 7, "error 7 missing m.csv\n")?;
     expect_file(&rt, &store, "n.csv", b"3\n\"\"\n5\n");
     Ok(())
 }
@@ -233,8 +247,8 @@ fn loads_of_a_file(rt: HostRuntime) -> Result<(), Fail> {
 #[test]
 fn refuses_words_schemas_and_queries(rt: HostRuntime) -> Result<(), Fail> {
     let mut store = MemStore::make(rt.alloc(), &[], 0)?;
-    expect_load(&rt, &mut store, LOAD, "", 0, "loaded 0 rows\n")?;
-    expect_load(&rt, &mut store, WORDS, "", 0, "loaded 0 rows\n")?;
+    expect_load(&rt, rt.blank(), &mut store, LOAD, "", 0, "loaded 0 rows\n")?;
+    expect_load(&rt, rt.blank(), &mut store, WORDS, "", 0, "loaded 0 rows\n")?;
     let usage = "error 1 usage\n";
     let syntax = "error 6 query Syntax\n";
     for (words, code, printed) in [
@@ -265,22 +279,26 @@ fn refuses_words_schemas_and_queries(rt: HostRuntime) -> Result<(), Fail> {
             "error 2 schema at column 1 BadType\n",
         ),
     ] {
-        expect_five(&rt, &mut store, words, code, printed)?;
+        expect_five(&rt, rt.blank(), &mut store, words, code, printed)?;
     }
     Ok(())
 }
 
 /// Runs a command of five words.
-fn expect_five<R: Abort + AllocGlobal + Count>(
+fn expect_five<R: Abort + AllocGlobal>(
     rt: &R,
+    blank: Blank,
     store: &mut MemStore,
     words: [&'static str; 5],
     code: u8,
     printed: &'static str,
-) -> Result<(), AllocError> {
+) -> Result<(), AllocError>
+    requires { 0 < blank.parts }
+{
     let mut source = MemSource::make(rt.alloc(), b"", 1, &[])?;
     let mut out = MemSink::make(rt.alloc(), &[])?;
-    let done = answer::<Brand>(rt.alloc(), rt.blank(), &words, &mut source, store, &mut out)?;
+    let words = owned(rt.alloc(), &words)?;
+    let done = answer::<Brand>(rt.alloc(), blank, &words, &mut source, store, &mut out);
     assert!(rt; done == code, "{}", printed);
     assert!(rt; out.written() == printed.as_bytes(), "{}", printed);
     Ok(())
@@ -311,10 +329,11 @@ fn names_each_damaged_file(rt: HostRuntime) -> Result<(), Fail> {
         ),
     ] {
         let mut store = MemStore::make(rt.alloc(), &[], 0)?;
-        expect_load(&rt, &mut store, LOAD, "1\n", 0, "loaded 1 rows\n")?;
+        expect_load(&rt, rt.blank(), &mut store, LOAD, "1\n", 0, "loaded 1 rows\n")?;
         keep(&rt, &mut store, file, bytes)?;
         expect_five(
             &rt,
+            rt.blank(),
             &mut store,
             ["ibis", "-d", "D", "-q", "where a < 3"],
             8,
@@ -334,10 +353,10 @@ fn each_put_of_a_load_fails_in_turn(rt: HostRuntime) -> Result<(), Fail> {
         (12, true, "hits 2\n"),
     ] {
         let mut store = MemStore::make(rt.alloc(), &[FailAt { call, keep_new }], 0)?;
-        expect_load(&rt, &mut store, LOAD, "1\n", 0, "loaded 1 rows\n")?;
-        expect_load(&rt, &mut store, LOAD, "2\n", 11, "")?;
+        expect_load(&rt, rt.blank(), &mut store, LOAD, "1\n", 0, "loaded 1 rows\n")?;
+        expect_load(&rt, rt.blank(), &mut store, LOAD, "2\n", 11, "")?;
         let below = &["ibis", "-d", "D", "-q", "where a < 9"];
-        expect_asked(&rt, &mut store, below, 0, hits)?;
+        expect_asked(&rt, rt.blank(), &mut store, below, 0, hits)?;
     }
     Ok(())
 }
@@ -349,14 +368,14 @@ fn a_failing_input_or_output_has_its_status(rt: HostRuntime) -> Result<(), Fail>
         source_fails: &[0],
         ..make_case(LOAD, b"7\n", 10, "")
     };
-    expect(&rt, &mut store, &unread)?;
+    expect(&rt, rt.blank(), &mut store, &unread)?;
     assert!(rt; store.name(0).is_none());
-    expect_load(&rt, &mut store, LOAD, "7\n", 0, "loaded 1 rows\n")?;
+    expect_load(&rt, rt.blank(), &mut store, LOAD, "7\n", 0, "loaded 1 rows\n")?;
     let unprinted = Case {
         sink_fails: &[0],
         ..make_case(&["ibis", "-d", "D", "-l"], b"", 12, "")
     };
-    expect(&rt, &mut store, &unprinted)?;
+    expect(&rt, rt.blank(), &mut store, &unprinted)?;
     Ok(())
 }
 
@@ -372,11 +391,11 @@ schema a:int\npart 0 rows 3\n";
 fn a_session_goes_on_behind_a_refusal(rt: HostRuntime) -> Result<(), Fail> {
     let mut store = MemStore::make(rt.alloc(), &[], 0)?;
     keep(&rt, &mut store, "n.csv", b"3\n\"\"\n5\n")?;
-    expect_load(&rt, &mut store, &["session"], LINES, 0, REPLIES)?;
-    expect_load(&rt, &mut store, &["session"], "", 0, "")?;
+    expect_load(&rt, rt.blank(), &mut store, &["session"], LINES, 0, REPLIES)?;
+    expect_load(&rt, rt.blank(), &mut store, &["session"], "", 0, "")?;
     let quoted = "ibis -d 'D' -q 'where 'a' < 4'\n";
-    expect_load(&rt, &mut store, &["session"], quoted, 0, "hits 1\n")?;
-    expect_load(&rt, &mut store, &["session", "x"], "", 1, "error 1 usage\n")?;
+    expect_load(&rt, rt.blank(), &mut store, &["session"], quoted, 0, "hits 1\n")?;
+    expect_load(&rt, rt.blank(), &mut store, &["session", "x"], "", 1, "error 1 usage\n")?;
     Ok(())
 }
 
@@ -389,15 +408,15 @@ fn a_fault_ends_a_session(rt: HostRuntime) -> Result<(), Fail> {
         sink_fails: &[1],
         ..make_case(&["session"], lines, 12, "loaded 2 rows\n")
     };
-    expect(&rt, &mut store, &unprinted)?;
+    expect(&rt, rt.blank(), &mut store, &unprinted)?;
     let unread = Case {
         source_fails: &[0],
         ..make_case(&["session"], lines, 10, "")
     };
-    expect(&rt, &mut store, &unread)?;
+    expect(&rt, rt.blank(), &mut store, &unread)?;
     let mut bytes = Vec::new(rt.alloc());
     bytes.resize(16_777_217, b'#')?;
     let long = "error 9 limit session 16777217 over 16777216\n";
-    expect(&rt, &mut store, &make_case(&["session"], &bytes, 9, long))?;
+    expect(&rt, rt.blank(), &mut store, &make_case(&["session"], &bytes, 9, long))?;
     Ok(())
 }

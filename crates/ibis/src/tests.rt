@@ -1,4 +1,4 @@
-ghost use Rattle.std.specs.Prelude.{◌≡◌, ◌<◌};
+ghost use Rattle.std.specs.Prelude.{◌≡◌, ◌<◌, IsUtf8};
 ghost use Rattle.fb_outside.specs.Names.{IsPath};
 
 use super::*;
@@ -65,32 +65,35 @@ fn counted<L: Ledger>(
     alloc: Global,
     store: &mut MemStore,
     dir: &FileName,
-    query: &str,
+    query: &Label,
 ) -> Result<Option<String>, AllocError>
+    requires text { IsUtf8 query.now }
     requires ledger { blank.name ≡ L.name }
     requires parts { blank.parts ≡ L.parts }
     requires some { 0 < blank.parts }
     requires path { IsPath dir.now }
 {
-    let query = Label::from_bytes(alloc, query.as_bytes())?;
     let mut steps = Steps::<L>::new(blank);
-    match count(alloc, dir, &query, store, &mut steps) {
+    match count(alloc, dir, query, store, &mut steps) {
         Ok(hits) => Ok(Some(format!(in alloc; "{hits}\n")?)),
         Err(Unanswered::Refused(status)) => Ok(Some(status.line(alloc)?)),
         Err(_) => Ok(None),
     }
 }
 
-fn check_count<R: Abort + AllocGlobal + Count>(
+fn check_count<R: Abort + AllocGlobal>(
     rt: &R,
+    blank: Blank,
     store: &mut MemStore,
     dir: &FileName,
     query: &str,
     want: &str,
 ) -> Result<(), AllocError>
     requires path { IsPath dir.now }
+    requires some { 0 < blank.parts }
 {
-    match counted::<Brand>(rt.blank(), rt.alloc(), store, dir, query)? {
+    let asked = Label::from_bytes(rt.alloc(), query.as_bytes())?;
+    match counted::<Brand>(blank, rt.alloc(), store, dir, &asked)? {
         Some(have) => assert!(rt; have.as_str() == want, "{query}"),
         None => rt.panic("a count stopped"),
     }
@@ -111,7 +114,7 @@ fn records_of_two_parts_are_counted(rt: HostRuntime) -> Result<(), Fail> {
         ("a < 1", "error 6 query Syntax\n"),
     ];
     for (query, want) in rows {
-        check_count(&rt, &mut store, &dir, query, want)?;
+        check_count(&rt, rt.blank(), &mut store, &dir, query, want)?;
     }
     Ok(())
 }

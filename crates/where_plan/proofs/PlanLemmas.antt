@@ -1,5 +1,5 @@
 -- A clause has one plan, whose truth is the clause's, or a first refusal.
-use Rattle.std.proofs.Common.{◌≡◌, ◌<◌, ℕ, zero, suc, Bool, true, false, cond, not, ◌&&◌, List, [], ◌∷◌, ◌++◌, map, length, take, get_or, ◌+◌, refl, sym, ap, subst, ◌∙◌, ℤ, ◌≤ℤ◌, arith}
+use Rattle.std.proofs.Common.{◌≡◌, ◌<◌, ℕ, zero, suc, Bool, true, false, cond, not, ◌&&◌, List, [], ◌∷◌, ◌++◌, map, length, take, get_or, ◌+◌, refl, sym, ap, subst, ◌∙◌, ℤ, ◌≤ℤ◌, append-nil, arith}
 use Rattle.std.specs.Prelude.{Option, Some, None, Result, Ok, Err, IfOk, IfErr, is_some, is_none, slice_get, slice_index_or, option_map}
 use Rattle.std.specs.Option.{option_and_then}
 use Rattle.std.specs.List.{AllByRecursion, list_any, list_all}
@@ -234,12 +234,16 @@ named_by columns name (Some at) col ty e h = by (slice_get columns at) refl h
 named_told : (columns : List Column) (name : List ℕ) (col : ℕ) (ty : ColType) → column_named columns name ≡ Some (col, ty) → Named columns name col ty
 named_told columns name col ty h = named_by columns name (place_of columns name) col ty refl h
 
-fits_at : (cells : List Cell) (columns : List Column) (col : ℕ) (column : Column) → RecordFits cells columns → slice_get columns col ≡ Some column → CellFits (cell_at cells col) column.ty
-fits_at [] [] col column fits get = absurd cc
-fits_at [] (c ∷ columns) col column fits get = absurd fits
-fits_at (cell ∷ cells) [] col column fits get = absurd fits
-fits_at (cell ∷ cells) (c ∷ columns) zero column fits get = let same : c ≡ column = some_same c column get in subst (λ x. CellFits cell x.ty) same fits.0
-fits_at (cell ∷ cells) (c ∷ columns) (suc col) column fits get = fits_at cells columns col column fits.1 get
+-- each cell fits the column in its place
+abbrev EachFits : List Column → List Cell → Type 0
+EachFits columns cells = (col : ℕ) (column : Column) → slice_get columns col ≡ Some column → CellFits (cell_at cells col) column.ty
+
+fits_at : (cells : List Cell) (front more : List Column) → RecordFits cells front → EachFits (front ++ more) cells
+fits_at [] [] more fits col column get = tt
+fits_at [] (c ∷ front) more fits col column get = absurd fits
+fits_at (cell ∷ cells) [] more fits col column get = absurd fits
+fits_at (cell ∷ cells) (c ∷ front) more fits zero column get = let same : c ≡ column = some_same c column get in subst (λ x. CellFits cell x.ty) same fits.0
+fits_at (cell ∷ cells) (c ∷ front) more fits (suc col) column get = fits_at cells front more fits.1 col column get
 
 cell_of : (columns : List Column) (cells : List Cell) (name : List ℕ) (col : ℕ) (ty : ColType) → Named columns name col ty → cell_named columns cells name ≡ cell_at cells col
 cell_of columns cells name col ty n = rw n.place refl
@@ -293,10 +297,10 @@ numbers_met a (cell.Whole n) ty least greatest spans sort fits ends are =
     are.numbers n ∙ and_true (in_span n (span least greatest)) (number_meets a n) (fits_ends ty n least greatest fits ends)
 numbers_met a (cell.Word word) ty least greatest spans sort fits ends are = sym (word_unmet a word sort)
 
-atom_truth : (columns : List Column) (cells : List Cell) → RecordFits cells columns → (a : Atom) (p : PlanAtom) → IsAtomPlan columns a p → plan_atom_holds p cells ≡ atom_holds a columns cells
+atom_truth : (columns : List Column) (cells : List Cell) → EachFits columns cells → (a : Atom) (p : PlanAtom) → IsAtomPlan columns a p → plan_atom_holds p cells ≡ atom_holds a columns cells
 atom_truth columns cells fits a (atom.Whole col spans) is =
     let n = named_told columns (column_of a) col is.ty is.named in
-    let fit : CellFits (cell_at cells col) is.ty = subst (λ ty. CellFits (cell_at cells col) ty) n.type (fits_at cells columns col n.column fits n.get) in
+    let fit : CellFits (cell_at cells col) is.ty = subst (λ ty. CellFits (cell_at cells col) ty) n.type (fits col n.column n.get) in
     numbers_met a (cell_at cells col) is.ty is.least is.greatest spans is.sort fit is.ends is.numbers
     ∙ ap (is_met a) (sym (cell_of columns cells (column_of a) col is.ty n))
 atom_truth columns cells fits a (atom.Word col kept) is =
@@ -307,7 +311,7 @@ atom_truth columns cells fits a (atom.Exists col) is =
     ∙ ap (is_met a) (sym (cell_of columns cells (column_of a) col is.ty (named_told columns (column_of a) col is.ty is.named)))
 
 mutual
-  clause_truth : (columns : List Column) (cells : List Cell) → RecordFits cells columns → (c : Clause) (p : Plan) → IsClausePlan columns c p → plan_holds p cells ≡ holds c columns cells
+  clause_truth : (columns : List Column) (cells : List Cell) → EachFits columns cells → (c : Clause) (p : Plan) → IsClausePlan columns c p → plan_holds p cells ≡ holds c columns cells
   clause_truth columns cells fits _ _ (any_of parts plans are) =
       plan_holds-or cells plans ∙ (ap (list_any (λ b. b)) (parts_truth columns cells fits parts plans are) ∙ sym (holds-or columns cells parts))
   clause_truth columns cells fits _ _ (odd_of parts plans are) =
@@ -319,15 +323,21 @@ mutual
   clause_truth columns cells fits _ _ (single a p is) =
       plan_holds-one cells p ∙ (atom_truth columns cells fits a p is ∙ sym (holds-one a columns cells))
 
-  parts_truth : (columns : List Column) (cells : List Cell) → RecordFits cells columns → (cs : List Clause) (ps : List Plan) → ArePlans columns cs ps → map (λ p. plan_holds p cells) ps ≡ map (λ c. holds c columns cells) cs
+  parts_truth : (columns : List Column) (cells : List Cell) → EachFits columns cells → (cs : List Clause) (ps : List Plan) → ArePlans columns cs ps → map (λ p. plan_holds p cells) ps ≡ map (λ c. holds c columns cells) cs
   parts_truth columns cells fits _ _ no_parts = refl
   parts_truth columns cells fits _ _ (one_more c cs p ps is are) =
       ap (λ b. b ∷ map (λ p. plan_holds p cells) ps) (clause_truth columns cells fits c p is)
       ∙ ap (λ bs. holds c columns cells ∷ bs) (parts_truth columns cells fits cs ps are)
 
-pub plan_truth : (columns : List Column) (asked : Option Clause) (planned : Plan) (cells : List Cell) → IsPlan columns asked planned → RecordFits cells columns → plan_holds planned cells ≡ is_asked_for asked columns cells
+plan_truth : (columns : List Column) (asked : Option Clause) (planned : Plan) (cells : List Cell) → IsPlan columns asked planned → EachFits columns cells → plan_holds planned cells ≡ is_asked_for asked columns cells
 plan_truth columns None planned cells is fits = ap (λ p. plan_holds p cells) is ∙ plan_holds-all cells
 plan_truth columns (Some c) planned cells is fits = clause_truth columns cells fits c planned is
+
+pub front_truth : (front more : List Column) (asked : Option Clause) (planned : Plan) (cells : List Cell) → IsPlan (front ++ more) asked planned → RecordFits cells front → plan_holds planned cells ≡ is_asked_for asked (front ++ more) cells
+front_truth front more asked planned cells is fits = plan_truth (front ++ more) asked planned cells is (fits_at cells front more fits)
+
+pub whole_truth : (columns : List Column) (asked : Option Clause) (planned : Plan) (cells : List Cell) → IsPlan columns asked planned → RecordFits cells columns → plan_holds planned cells ≡ is_asked_for asked columns cells
+whole_truth columns asked planned cells is fits = plan_truth columns asked planned cells is (subst (λ xs. EachFits xs cells) (append-nil columns) (fits_at cells columns [] fits))
 
 -- ---- answers
 

@@ -1,5 +1,6 @@
 -- The first condition, from left to right, that doesn't fit the schema.
-use Rattle.std.specs.Prelude.{ℕ, if◌then◌else◌, List, [], ◌∷◌, Option, Some, None}
+use Rattle.std.specs.Prelude.{◌≡◌, ℕ, if◌then◌else◌, List, [], ◌∷◌, Option, Some, None, Result, IfErr}
+use Rattle.answers.specs.Answers.{Tells}
 use Rattle.fb_types.specs.declared.schemas.Column.{Column}
 use Rattle.fb_types.specs.declared.types.ColType.{ColType}
 use Rattle.where_grammar.specs.declared.clause.Atom.{Atom}
@@ -47,3 +48,7 @@ refusal_of columns (Some asked) = clause_refusal columns asked
 abbrev pub refusal : NameFault → Option QueryKind
 refusal (Bad kind) = Some kind
 refusal OutOfMemory = None
+
+-- a refusal that is answered is this one
+abbrev pub TellsRefusal : {T : Type 0} → Option QueryKind → Result T NameFault → Type 0
+TellsRefusal told result = IfErr result (Tells refusal (λ kind. told ≡ Some kind))

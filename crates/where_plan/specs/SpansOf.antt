@@ -12,6 +12,10 @@ pub record AreSpansOf (ends : Span) (test : ℤ → Bool) (spans : List Span) : 
   pub apart : AreApart spans
   pub numbers : (n : ℤ) → has spans n ≡ (in_span n ends && test n)
 
+-- the numbers of the spans, in whatever form, are exactly those between both ends that pass the test
+abbrev pub HaveOnly : Span → (ℤ → Bool) → List Span → Type 0
+HaveOnly ends test spans = (n : ℤ) → has spans n ≡ (in_span n ends && test n)
+
 abbrev pub span : ℤ → ℤ → Span
 span least greatest = record { least = least; greatest = greatest }
 
@@ -38,3 +42,10 @@ code_passes test words (negsuc n) = false
 -- the condition is true of the word of the code
 abbrev pub code_meets : Atom → List (List ℕ) → ℤ → Bool
 code_meets condition words code = code_passes (λ word. is_met condition (Word word)) words code
+
+-- the codes whose words pass the test, as spans in whatever form and as spans that stand apart
+abbrev pub HaveCodes : List (List ℕ) → (List ℕ → Bool) → List Span → Type 0
+HaveCodes words test spans = HaveOnly (code_range words) (code_passes test words) spans
+
+abbrev pub AreCodes : List (List ℕ) → (List ℕ → Bool) → List Span → Type 0
+AreCodes words test spans = AreSpansOf (code_range words) (code_passes test words) spans

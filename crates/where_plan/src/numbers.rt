@@ -6,7 +6,7 @@ ghost use Rattle.std.specs.Ordering.{int_eq};
 ghost use Rattle.binning.specs.Spans.{IsSpanInRange, has, in_span};
 ghost use Rattle.where_grammar.specs.Holds.{compares};
 ghost use Rattle.where_plan.specs.Sorts.{sort_of};
-ghost use Rattle.where_plan.specs.SpansOf.{AreSpansOf, number_meets};
+ghost use Rattle.where_plan.specs.SpansOf.{AreSpansOf, HaveOnly, number_meets};
 
 use crate::sorts::Sort;
 use binning::{Span, Spans};
@@ -175,7 +175,7 @@ fn spans_between(alloc: Global, ends: Span, low: i128, high: i128) -> Result<Spa
 /// The numbers of a list that are between both ends, each as a span.
 fn single_spans(alloc: Global, ends: Span, list: &[i128]) -> Result<Vec<Span>, AllocError>
     requires { IsSpanInRange ends }
-    ensures numbers { IfOk result (λ spans. (n : ℤ) → has spans.items n ≡ (in_span n ends && list_any (int_eq n) list.now)) }
+    ensures numbers { IfOk result (λ spans. HaveOnly ends (λ n. list_any (int_eq n) list.now) spans.items) }
     ensures within { IfOk result (λ spans. AllByRecursion IsSpanInRange spans.items) }
 {
     let mut spans = Vec::with_capacity(alloc, list.len())?;

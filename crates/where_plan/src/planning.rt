@@ -1,6 +1,6 @@
 //! The plan of a clause under a schema.
 
-ghost use Rattle.std.specs.Prelude.{◌≡◌, IfErr, IfOk, Some, Ok, Err, map};
+ghost use Rattle.std.specs.Prelude.{◌≡◌, IfOk, Some, Ok, Err, map};
 ghost use Rattle.std.specs.Option.{option_copied};
 ghost use Rattle.answers.specs.Answers.{Answers, Tells};
 ghost use Rattle.fb_types.specs.Types.{ends_of};
@@ -9,7 +9,7 @@ ghost use Rattle.where_grammar.specs.declared.clause.QueryKind.{QueryKind};
 ghost use Rattle.where_plan.specs.declared.plan.Plan.{Plan};
 ghost use Rattle.where_plan.specs.Sorts.{column_named, sort_of};
 ghost use Rattle.where_plan.specs.Plans.{ArePlans, FitsSchema, IsAtomPlan, IsClausePlan, IsPlan};
-ghost use Rattle.where_plan.specs.Refusals.{atom_refusal, clause_refusal, first_some, refusal, refusal_of};
+ghost use Rattle.where_plan.specs.Refusals.{atom_refusal, clause_refusal, TellsRefusal, first_some, refusal, refusal_of};
 
 use crate::faults::{NameFault, bad};
 use crate::numbers::number_spans;
@@ -51,7 +51,7 @@ fn planned_at(
 ) -> Result<PlanAtom, NameFault>
     requires { column_named schema.now (column_of condition.now) ≡ Some (col, ty) }
     ensures found { IfOk result (IsAtomPlan schema.now condition.now) }
-    ensures refused { IfErr result (Tells refusal (λ kind. atom_refusal schema.now condition.now ≡ Some kind)) }
+    ensures refused { TellsRefusal (atom_refusal schema.now condition.now) result }
 {
     match sort_of(condition) {
         Sort::Number => match ty.ends() {
@@ -75,7 +75,7 @@ fn planned_at(
 /// The plan of a condition.
 fn planned_atom(alloc: Global, condition: &Atom, schema: &Schema) -> Result<PlanAtom, NameFault>
     ensures found { IfOk result (IsAtomPlan schema.now condition.now) }
-    ensures refused { IfErr result (Tells refusal (λ kind. atom_refusal schema.now condition.now ≡ Some kind)) }
+    ensures refused { TellsRefusal (atom_refusal schema.now condition.now) result }
 {
     let name = name_of(condition);
     match column_named(schema, name.bytes()) {
@@ -88,7 +88,7 @@ fn planned_atom(alloc: Global, condition: &Atom, schema: &Schema) -> Result<Plan
 #[cycle(planning)]
 fn planned(alloc: Global, clause: &Clause, schema: &Schema) -> Result<Plan, NameFault>
     ensures found { IfOk result (IsClausePlan schema.now clause.now) }
-    ensures refused { IfErr result (Tells refusal (λ kind. clause_refusal schema.now clause.now ≡ Some kind)) }
+    ensures refused { TellsRefusal (clause_refusal schema.now clause.now) result }
 {
     match clause {
         Clause::Or(parts) => Ok(Plan::Or(planned_parts(alloc, parts.as_slice(), schema)?)),
@@ -106,7 +106,7 @@ fn planned(alloc: Global, clause: &Clause, schema: &Schema) -> Result<Plan, Name
 #[cycle(planning)]
 fn planned_parts(alloc: Global, parts: &[Clause], schema: &Schema) -> Result<Items<Plan>, NameFault>
     ensures found { IfOk result (ArePlans schema.now parts.now) }
-    ensures refused { IfErr result (Tells refusal (λ kind. first_some (map (clause_refusal schema.now) parts.now) ≡ Some kind)) }
+    ensures refused { TellsRefusal (first_some (map (clause_refusal schema.now) parts.now)) result }
 {
     let mut plans = Items::new(alloc);
     for part in parts {
@@ -122,11 +122,13 @@ pub fn resolve(alloc: Global, clause: Option<&Clause>, schema: &Schema) -> Resul
     // What is given is the plan, and where there is one, it is given.
     ensures found { IfOk result (IsPlan schema.now (option_copied clause.entry)) }
     ensures fits { IfOk result (FitsSchema schema.now) }
-    ensures only { (plan : Plan) → IsPlan schema.now (option_copied clause.entry) plan → Answers refusal result (Ok plan) }
+    ensures only { (plan : Plan) → IsPlan schema.now (option_copied clause.entry) plan
+        → Answers refusal result (Ok plan) }
 
     // A refusal is the first one, and where there is one, it is given.
-    ensures refused { IfErr result (Tells refusal (λ kind. refusal_of schema.now (option_copied clause.entry) ≡ Some kind)) }
-    ensures refuses { (kind : QueryKind) → refusal_of schema.now (option_copied clause.entry) ≡ Some kind → Answers {T = Plan} refusal result (Err kind) }
+    ensures refused { TellsRefusal (refusal_of schema.now (option_copied clause.entry)) result }
+    ensures refuses { (kind : QueryKind) → refusal_of schema.now (option_copied clause.entry) ≡ Some kind
+        → Answers {T = Plan} refusal result (Err kind) }
 {
     match clause {
         Some(clause) => planned(alloc, clause, schema),

@@ -7,7 +7,7 @@ ghost use Rattle.binning.specs.Spans.{IsSpanInRange, has, in_span};
 ghost use Rattle.patterns.specs.Like.{like};
 ghost use Rattle.text_column.specs.Words.{IsDictionary};
 ghost use Rattle.where_plan.specs.Sorts.{sort_of};
-ghost use Rattle.where_plan.specs.SpansOf.{AreSpansOf, code_meets, code_passes, code_range, span};
+ghost use Rattle.where_plan.specs.SpansOf.{AreCodes, AreSpansOf, HaveCodes, code_meets, code_passes, code_range, span};
 
 use crate::numbers::{compared_spans, nothing, only};
 use crate::sorts::Sort;
@@ -31,7 +31,8 @@ fn code_range(words: &Dictionary) -> Span
 
 /// The code of the word that is the text, nothing where no word is.
 fn code_span(words: &Dictionary, text: &[u8]) -> Span
-    ensures numbers { (n : ℤ) → in_span n result ≡ (in_span n (code_range words.now) && code_passes (λ word. bytes_eq word text.now) words.now n) }
+    ensures numbers { (n : ℤ) → in_span n result
+        ≡ (in_span n (code_range words.now) && code_passes (λ word. bytes_eq word text.now) words.now n) }
     ensures within { IsSpanInRange result }
 {
     let codes = code_range(words);
@@ -43,14 +44,14 @@ fn code_span(words: &Dictionary, text: &[u8]) -> Span
 
 /// The spans of the code of the word that is the text.
 fn same_spans(alloc: Global, words: &Dictionary, text: &[u8]) -> Result<Spans, AllocError>
-    ensures { IfOk result (AreSpansOf (code_range words.now) (code_passes (λ word. bytes_eq word text.now) words.now)) }
+    ensures { IfOk result (AreCodes words.now (λ word. bytes_eq word text.now)) }
 {
     Spans::of(alloc, &[code_span(words, text)])
 }
 
 /// The spans of the codes of the words that aren't the text.
 fn other_spans(alloc: Global, words: &Dictionary, text: &[u8]) -> Result<Spans, AllocError>
-    ensures { IfOk result (AreSpansOf (code_range words.now) (code_passes (λ word. not (bytes_eq word text.now)) words.now)) }
+    ensures { IfOk result (AreCodes words.now (λ word. not (bytes_eq word text.now))) }
 {
     let codes = code_range(words);
     match words.code_of(text) {
@@ -61,7 +62,7 @@ fn other_spans(alloc: Global, words: &Dictionary, text: &[u8]) -> Result<Spans, 
 
 /// The codes of the words that are in the list.
 fn listed_codes(alloc: Global, words: &Dictionary, list: &[Label]) -> Result<Vec<Span>, AllocError>
-    ensures numbers { IfOk result (λ spans. (n : ℤ) → has spans.items n ≡ (in_span n (code_range words.now) && code_passes (λ word. list_any (bytes_eq word) list.now) words.now n)) }
+    ensures numbers { IfOk result (λ spans. HaveCodes words.now (λ word. list_any (bytes_eq word) list.now) spans.items) }
     ensures within { IfOk result (λ spans. AllByRecursion IsSpanInRange spans.items) }
 {
     let mut spans = Vec::with_capacity(alloc, list.len())?;
@@ -73,7 +74,7 @@ fn listed_codes(alloc: Global, words: &Dictionary, list: &[Label]) -> Result<Vec
 
 /// The spans of the codes of the words that are in the list.
 fn listed_word_spans(alloc: Global, words: &Dictionary, list: &[Label]) -> Result<Spans, AllocError>
-    ensures { IfOk result (AreSpansOf (code_range words.now) (code_passes (λ word. list_any (bytes_eq word) list.now) words.now)) }
+    ensures { IfOk result (AreCodes words.now (λ word. list_any (bytes_eq word) list.now)) }
 {
     let spans = listed_codes(alloc, words, list)?;
     Spans::of(alloc, &spans)
@@ -82,7 +83,8 @@ fn listed_word_spans(alloc: Global, words: &Dictionary, list: &[Label]) -> Resul
 /// Adds the numbers from `first` to `last`, where there are some.
 fn push_run(runs: &mut Vec<Span>, first: u32, last: u32) -> Result<(), AllocError>
     requires { AllByRecursion IsSpanInRange runs.old.items }
-    ensures numbers { OnOk result ((n : ℤ) → has runs.new.items n ≡ (has runs.old.items n || in_span n (span (pos first) (pos last)))) }
+    ensures numbers { OnOk result ((n : ℤ) → has runs.new.items n
+        ≡ (has runs.old.items n || in_span n (span (pos first) (pos last)))) }
     ensures within { OnOk result (AllByRecursion IsSpanInRange runs.new.items) }
 {
     if first <= last {
@@ -96,7 +98,7 @@ fn push_run(runs: &mut Vec<Span>, first: u32, last: u32) -> Result<(), AllocErro
 
 /// The codes of the words that are of the form of the pattern, a span for each run of neighbours.
 fn like_codes(alloc: Global, words: &Dictionary, pattern: &[u8]) -> Result<Vec<Span>, AllocError>
-    ensures numbers { IfOk result (λ spans. (n : ℤ) → has spans.items n ≡ (in_span n (code_range words.now) && code_passes (like pattern.now) words.now n)) }
+    ensures numbers { IfOk result (λ spans. HaveCodes words.now (like pattern.now) spans.items) }
     ensures within { IfOk result (λ spans. AllByRecursion IsSpanInRange spans.items) }
 {
     let mut runs = Vec::new(alloc);
@@ -117,7 +119,7 @@ fn like_codes(alloc: Global, words: &Dictionary, pattern: &[u8]) -> Result<Vec<S
 
 /// The spans of the codes of the words that are of the form of the pattern.
 fn like_spans(alloc: Global, words: &Dictionary, pattern: &[u8]) -> Result<Spans, AllocError>
-    ensures { IfOk result (AreSpansOf (code_range words.now) (code_passes (like pattern.now) words.now)) }
+    ensures { IfOk result (AreCodes words.now (like pattern.now)) }
 {
     let spans = like_codes(alloc, words, pattern)?;
     Spans::of(alloc, &spans)

@@ -1,0 +1,5 @@
+pub mod FoldLemmas
+pub mod SpanSets
+pub mod RangeLemmas
+pub mod PlanLemmas
+pub mod CodeLemmas

@@ -1,0 +1,5 @@
+pub mod Sorts
+pub mod SpansOf
+pub mod Plans
+pub mod Refusals
+pub mod PlanHolds

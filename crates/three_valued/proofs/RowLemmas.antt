@@ -1,13 +1,15 @@
 -- Answers row by row, and the vectors that keep them.
-use Rattle.std.proofs.Common.{◌≡◌, ℕ, zero, suc, ◌+◌, ◌<◌, Bool, true, false, not, List, [], ◌∷◌, length, map, get_or, replicate, refl, sym, ap, ◌∙◌, subst, arith}
+use Rattle.std.proofs.Common.{◌≡◌, ℕ, zero, suc, ◌+◌, ◌*◌, ◌/◌, ◌%◌, ◌^◌, ◌<◌, ◌≤◌, ◌++◌, Option, Some, None, Bool, true, false, not, List, [], ◌∷◌, length, map, get_or, replicate, refl, sym, ap, ◌∙◌, subst, arith}
+use Rattle.std.specs.Prelude.{is_some}
 use Rattle.std.specs.List.{range_with_len}
-use Rattle.std.proofs.lemmas.List.{length-map}
+use Rattle.std.proofs.lemmas.List.{append-nil, length-map, replicate-append-replicate}
+use Rattle.std.proofs.Math.Pow.{pow_mono}
 use Rattle.std.proofs.lemmas.List.FromFn.{length-range_with_len, length-map-range_with_len}
 use Rattle.binning.specs.declared.against_bins.Three.{Three}
 use Rattle.binning.specs.declared.against_bins.Three.TheVariants.{Yes, No, Unknown}
 use Rattle.wah_logic.specs.Logic.{each_place, or, xor, and_not}
 use Rattle.three_valued.specs.Tables.{ActsOnBounds, HasTable, decided, is_possible, is_unknown, is_yes, three_not, three_xor}
-use Rattle.three_valued.specs.Rows.{AreBounds, answer_of, answers_of, each_row, rowwise}
+use Rattle.three_valued.specs.Rows.{AreBounds, answer_of, answers_of, each_row, possible_of, rowwise}
 use Rattle.three_valued.proofs.TableLemmas.{xor_decided, not_definite, not_possible}
 
 -- ---- from vectors to answers and back
@@ -106,19 +108,23 @@ unfolding each_place
 unknown_back [] = refl
 unknown_back (x ∷ xs) = rw (unknown_here x, unknown_back xs) refl
 
-pub unknown_between : (d p : List Bool) → AreBounds d p → each_place and_not p d ≡ map is_unknown (answers_of d p)
-unknown_between d p h =
-    let xs = answers_of d p in
-    let same : each_place and_not (map is_possible xs) (map is_yes xs) ≡ each_place and_not p d = ap (λ l. each_place and_not l (map is_yes xs)) (possible_rows d p h) ∙ ap (each_place and_not p) (yes_rows d p h) in
-    sym same ∙ unknown_back xs
+none_alone : (b : Bool) → and_not b b ≡ false
+none_alone true = refl
+none_alone false = refl
 
-none_unknown : (d : List Bool) → replicate (length d) false ≡ map is_unknown (map decided d)
-none_unknown [] = refl
-none_unknown (true ∷ d) = ap (λ l. false ∷ l) (none_unknown d)
-none_unknown (false ∷ d) = ap (λ l. false ∷ l) (none_unknown d)
+none_left : (d : List Bool) → each_place and_not d d ≡ replicate (length d) false
+unfolding each_place
+none_left [] = refl
+none_left (x ∷ d) = rw (none_alone x, none_left d) refl
 
-pub unknown_none : (d : List Bool) (n : ℕ) → n ≡ length d → replicate n false ≡ map is_unknown (answers_of d d)
-unknown_none d n e = rw (e, answers_of_same d) (none_unknown d)
+-- no row, where the rows that are Yes and those that aren't No are the same
+pub unknown_none : (xs : List Three) (n : ℕ) → map is_possible xs ≡ map is_yes xs → n ≡ length xs → replicate n false ≡ map is_unknown xs
+unknown_none xs n same e =
+    let long : n ≡ length (map is_yes xs) = e ∙ sym (length-map xs is_yes) in
+    ap (λ k. replicate k false) long ∙ sym (none_left (map is_yes xs)) ∙ ap (λ l. each_place and_not l (map is_yes xs)) (sym same) ∙ unknown_back xs
+
+pub unknown_rows_of : (v p d : List Bool) (xs : List Three) → v ≡ each_place and_not p d → p ≡ map is_possible xs → d ≡ map is_yes xs → v ≡ map is_unknown xs
+unknown_rows_of v p d xs e h k = e ∙ ap (λ l. each_place and_not l d) h ∙ ap (each_place and_not (map is_possible xs)) k ∙ unknown_back xs
 
 -- ---- Yes, else Unknown
 
@@ -206,3 +212,56 @@ same_each x (row ∷ rows) = ap (λ l. x ∷ l) (same_each x rows)
 
 pub uniform_rows : {X : Type 0} (x : X) (rows : ℕ) → replicate rows x ≡ each_row rows (λ row. x)
 uniform_rows x rows = ap (λ n. replicate n x) (sym (length-range_with_len 0 rows)) ∙ same_each x (range_with_len 0 rows)
+
+-- ---- what is kept of answers
+
+pub yes_kept : (d : List Bool) (o : Option (List Bool)) (xs : List Three) → AreBounds d (possible_of d o) → answers_of d (possible_of d o) ≡ xs → d ≡ map is_yes xs
+yes_kept d o xs h e = sym (yes_rows d (possible_of d o) h) ∙ ap (map is_yes) e
+
+pub possible_kept : (d : List Bool) (o : Option (List Bool)) (xs : List Three) → AreBounds d (possible_of d o) → answers_of d (possible_of d o) ≡ xs → possible_of d o ≡ map is_possible xs
+possible_kept d o xs h e = sym (possible_rows d (possible_of d o) h) ∙ ap (map is_possible) e
+
+pub known_kept : (d : List Bool) (o : Option (List Bool)) (xs : List Three) (none : Bool) → AreBounds d (possible_of d o) → answers_of d (possible_of d o) ≡ xs → is_some o ≡ not none → none ≡ true → map is_possible xs ≡ map is_yes xs
+known_kept d None xs none h e same is = sym (possible_kept d None xs h e) ∙ yes_kept d None xs h e
+known_kept d (Some p) xs none h e same is = let wrong : true ≡ not true = same ∙ ap not is in absurd cc
+
+pub length_kept : (d : List Bool) (o : Option (List Bool)) (xs : List Three) → AreBounds d (possible_of d o) → answers_of d (possible_of d o) ≡ xs → length d ≡ length xs
+length_kept d o xs h e = ap length (yes_kept d o xs h e) ∙ length-map xs is_yes
+
+-- ---- the bounds of two joined parts
+
+pub joined_bound : (op : Bool → Bool → Bool) (f : Three → Bool) (table : Three → Three → Three) → ((x y : Three) → f (table x y) ≡ op (f x) (f y)) → (v p q : List Bool) (xs ys : List Three) → v ≡ each_place op p q → p ≡ map f xs → q ≡ map f ys → v ≡ map f (rowwise table xs ys)
+joined_bound op f table acts v p q xs ys e h k = e ∙ ap (λ l. each_place op l q) h ∙ ap (each_place op (map f xs)) k ∙ each-rowwise op f table acts xs ys
+
+pub either_bound : (f g : Three → Bool) → ((x y : Three) → f (three_xor x y) ≡ or (and_not (f x) (g y)) (and_not (f y) (g x))) → (v p q r s : List Bool) (xs ys : List Three) → v ≡ each_place or (each_place and_not p q) (each_place and_not r s) → p ≡ map f xs → q ≡ map g ys → r ≡ map f ys → s ≡ map g xs → v ≡ map f (rowwise three_xor xs ys)
+either_bound f g acts v p q r s xs ys e hp hq hr hs = e ∙ rw (hp, hq, hr, hs) (either-rowwise f g acts xs ys)
+
+pub xor_answers : (v p q : List Bool) (xs ys : List Three) → v ≡ each_place xor p q → p ≡ map is_yes xs → q ≡ map is_yes ys → map is_possible xs ≡ map is_yes xs → map is_possible ys ≡ map is_yes ys → map decided v ≡ rowwise three_xor xs ys
+xor_answers v p q xs ys e h k same also = rw (e, h, k) (xor_known xs ys same also)
+
+-- ---- vectors of one value
+
+pub fill_nothing : (b : Bool) (n : ℕ) → n ≤ 0 → [] ≡ replicate (31 * n) b
+fill_nothing b zero h = refl
+fill_nothing b (suc n) h = absurd (omega arith)
+
+pub rest_nothing : (b : Bool) (v : List Bool) (count : ℕ) → count ≤ 0 → v ≡ v ++ replicate count b
+rest_nothing b v zero h = sym (append-nil v)
+rest_nothing b v (suc count) h = absurd (omega arith)
+
+pub fills_all : (b : Bool) (len : ℕ) → replicate (31 * (len / 31)) b ++ replicate (len % 31) b ≡ replicate len b
+fills_all b len =
+    let e : 31 * (len / 31) + len % 31 ≡ len = omega arith in
+    replicate-append-replicate (31 * (len / 31)) (len % 31) b ∙ ap (λ n. replicate n b) e
+
+pub shifted_one : (count : ℕ) → count < 31 → 1 * 2 ^ count % 4294967296 ≡ 2 ^ count
+shifted_one count few =
+    let few' : count ≤ 31 = omega arith in
+    let most : 2 ^ count ≤ 2 ^ 31 = pow_mono few' in
+    omega arith
+
+pub power_some : (count : ℕ) → 1 ≤ 2 ^ count
+power_some count =
+    let above : 0 ≤ count = omega arith in
+    let least : 2 ^ 0 ≤ 2 ^ count = pow_mono above in
+    omega arith

@@ -2,7 +2,7 @@
 ghost use Rattle.std.specs.Prelude.{◌≡◌, ◌+◌, ◌*◌, ◌≤◌, IfOk, length, map};
 ghost use Rattle.binning.specs.declared.against_bins.Three.{Three};
 ghost use Rattle.wah_logic.specs.Logic.{and_not, each_place, groups_and_rest, or};
-ghost use Rattle.three_valued.specs.Tables.{ActsOnBounds, HasTable, joins, three_not, three_xor, unit};
+ghost use Rattle.three_valued.specs.Tables.{ActsOnBounds, HasTable, decided, joins, three_not, three_xor, unit};
 ghost use Rattle.three_valued.specs.Rows.{rowwise};
 
 use crate::row_answers::Answers;
@@ -18,6 +18,19 @@ pub enum Join {
     Or,
     Xor,
     And,
+}
+
+impl Join {
+    /// The answer of no part.
+    pub(crate) fn of_none(self) -> bool
+        ensures { decided result ≡ unit self }
+    {
+        match self {
+            Join::Or => false,
+            Join::Xor => false,
+            Join::And => true,
+        }
+    }
 }
 
 /// The answers of two parts where an operation on what is definite, and on what is possible, gives what is definite and
@@ -76,10 +89,22 @@ fn exactly_one<L: Ledger>(
         let rows = wah_logic::combined::<Xor, L>(alloc, a.definite(), b.definite(), steps)?;
         return Ok(Answers::known(rows));
     }
-    let (da, pa) = (a.definite(), a.possible());
-    let (db, pb) = (b.definite(), b.possible());
-    let definite = either_alone(alloc, da, pb, db, pa, steps)?;
-    let possible = either_alone(alloc, pa, db, pb, da, steps)?;
+    let definite = either_alone(
+        alloc,
+        a.definite(),
+        b.possible(),
+        b.definite(),
+        a.possible(),
+        steps,
+    )?;
+    let possible = either_alone(
+        alloc,
+        a.possible(),
+        b.definite(),
+        b.possible(),
+        a.definite(),
+        steps,
+    )?;
     Ok(Answers::within(definite, possible))
 }
 

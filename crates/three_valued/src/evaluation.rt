@@ -5,9 +5,9 @@ ghost use Rattle.binning.specs.declared.against_bins.Three.{Three};
 ghost use Rattle.where_plan.specs.declared.plan.PlanAtom.{PlanAtom};
 ghost use Rattle.wah_words.specs.Limits.{most_bits};
 ghost use Rattle.wah_logic.specs.Logic.{groups_and_rest};
-ghost use Rattle.three_valued.specs.Tables.{joined};
+ghost use Rattle.three_valued.specs.Tables.{joined, joins};
 ghost use Rattle.three_valued.specs.Plans.{atoms_of, parts_in, parts_of, three};
-ghost use Rattle.three_valued.specs.Rows.{columns, each_row};
+ghost use Rattle.three_valued.specs.Rows.{columns, each_row, rowwise};
 ghost use Rattle.three_valued.specs.Held.{held_answers};
 
 use crate::connectives::{Join, join_two, negated};
@@ -74,6 +74,31 @@ pub fn combined<'a, L: Ledger>(
     }
 }
 
+/// Answers joined with those of one part more.
+#[cycle(combining)]
+fn with_part<'a, L: Ledger>(
+    alloc: Global,
+    join: Join,
+    held: Held<'a>,
+    part: &Plan,
+    rows: u32,
+    answers: &'a [Answers],
+    next: &mut usize,
+    steps: &mut Steps<L>,
+) -> Result<Held<'a>, AllocError>
+    requires limit { rows ≤ most_bits }
+    requires there { next.old + length (atoms_of part.now) ≤ length answers.now }
+    requires long { All (λ a. length a ≡ rows) answers.now }
+    requires same { length (held_answers held) ≡ rows }
+    ensures next { OnOk result (next.new ≡ next.old + length (atoms_of part.now)) }
+    ensures length { IfOk result (λ held. length (held_answers held) ≡ rows) }
+    ensures answers { IfOk result (λ made. (answer : ℕ → PlanAtom → Three) (more : List (List Three)) → drop next.old answers.now ≡ columns rows answer (atoms_of part.now) ++ more → held_answers made ≡ rowwise (joins join) (held_answers held.entry) (each_row rows (λ row. three (answer row) part.now))) }
+    ensures steps { steps.new ≤ steps.old + 2 * groups_and_rest rows * (16 * (1 + parts_of part.now)) }
+{
+    let other = combined(alloc, part, rows, answers, next, steps)?;
+    Ok(Held::Made(join_two(alloc, join, held.get(), other.get(), steps)?))
+}
+
 /// The same of joined parts.
 #[cycle(combining)]
 fn joined<'a, L: Ledger>(
@@ -94,15 +119,11 @@ fn joined<'a, L: Ledger>(
     ensures steps { steps.new ≤ steps.old + 2 * groups_and_rest rows * (16 * parts_in parts.now) }
 {
     match parts {
-        [] => {
-            let none_is_yes = matches!(join, Join::And);
-            Ok(Held::Made(Answers::uniform(alloc, none_is_yes, rows)?))
-        }
+        [] => Ok(Held::Made(Answers::uniform(alloc, join.of_none(), rows)?)),
         [first, rest @ ..] => {
             let mut held = combined(alloc, first, rows, answers, next, steps)?;
             for part in rest {
-                let other = combined(alloc, part, rows, answers, next, steps)?;
-                held = Held::Made(join_two(alloc, join, held.get(), other.get(), steps)?);
+                held = with_part(alloc, join, held, part, rows, answers, next, steps)?;
             }
             Ok(held)
         }

@@ -1,6 +1,7 @@
 //! Answers of one condition, or of a whole plan, on each row.
-ghost use Rattle.std.specs.Prelude.{◌≡◌, ◌+◌, ◌*◌, ◌≤◌, IfOk, IsTrue, length, map, replicate};
+ghost use Rattle.std.specs.Prelude.{◌≡◌, ◌+◌, ◌*◌, ◌^◌, ◌<◌, ◌≤◌, IfOk, IsTrue, length, map, replicate};
 ghost use Rattle.wah_words.specs.Limits.{most_bits};
+ghost use Rattle.wah_words.specs.Places.{places};
 ghost use Rattle.wah_logic.specs.Logic.{groups_and_rest};
 ghost use Rattle.three_valued.specs.Tables.{decided, is_possible, is_unknown, is_yes};
 ghost use Rattle.three_valued.specs.Rows.{AreBounds, answers_of};
@@ -33,6 +34,15 @@ impl Model for Answers {
     ghost invariant = { λ a. AreBounds a.definite (possible_of a.definite a.possible) };
 }
 
+/// So many bits of one value.
+fn last_bits(value: bool, count: u32) -> u32
+    requires { count < 31 }
+    ensures bits { places count result ≡ replicate count value }
+    ensures fits { result < 2 ^ count }
+{
+    if value { (1 << count) - 1 } else { 0 }
+}
+
 /// A vector of one value.
 fn filled(alloc: Global, value: bool, rows: u32) -> Result<Wah, AllocError>
     requires { rows ≤ most_bits }
@@ -44,8 +54,7 @@ fn filled(alloc: Global, value: bool, rows: u32) -> Result<Wah, AllocError>
     }
     let rest = rows % 31;
     if rest > 0 {
-        let bits = if value { (1 << rest) - 1 } else { 0 };
-        out.push_tail(bits, rest);
+        out.push_tail(last_bits(value, rest), rest);
     }
     Ok(out.finish())
 }
@@ -92,7 +101,8 @@ impl Answers {
         requires { rows ≤ most_bits }
         ensures { IfOk result (λ a. a ≡ replicate rows (decided value)) }
     {
-        Ok(Answers::known(filled(alloc, value, rows)?))
+        let vector = filled(alloc, value, rows)?;
+        Ok(Answers::known(vector))
     }
 
     /// The number of rows.
@@ -136,11 +146,9 @@ impl Answers {
         ensures rows { IfOk result (λ v. v ≡ map is_unknown self.now) }
         ensures steps { steps.new ≤ steps.old + 2 * groups_and_rest (length self.now) }
     {
-        match &self.possible {
-            None => filled(alloc, false, self.len()),
-            Some(possible) => {
-                wah_logic::combined::<AndNot, L>(alloc, possible, &self.definite, steps)
-            }
+        if self.is_known() {
+            return filled(alloc, false, self.len());
         }
+        wah_logic::combined::<AndNot, L>(alloc, self.possible(), self.definite(), steps)
     }
 }

@@ -66,3 +66,14 @@ decided_rows plan whole again unknown answer truth is same decides =
       (ap length same ∙ length-map-range_with_len (λ row. three (answer row) plan) 0 (length whole)) is
       decides.sound
       (λ row below open_. ap (λ l. get_or l row No) same ∙ get_or-map-range_with_len (λ row. three (answer row) plan) 0 (length whole) row row No below (omega arith) ∙ decided_plans (answer row) (truth row) plan (decides.exact row below open_))
+
+pub rows_from : (v d e f unknown : List Bool) (whole again : List Three) → v ≡ each_place or d e → d ≡ map is_yes whole → e ≡ each_place and f unknown → f ≡ map is_yes again → v ≡ each_place or (map is_yes whole) (each_place and (map is_yes again) unknown)
+rows_from v d e f unknown whole again is h k l = is ∙ rw (h, k, l) refl
+
+pub told_from_start : (n m : ℕ) (answer : ℕ → PlanAtom → Three) (atoms : List PlanAtom) (answers : List (List Three)) → n ≡ m → answers ≡ columns m answer atoms → drop 0 answers ≡ columns n answer atoms ++ []
+told_from_start n m answer atoms answers e told = drop_none answers (columns n answer atoms) (told ∙ ap (λ k. columns k answer atoms) (sym e))
+
+pub cost_true : (g s t u v a : ℕ) → t ≤ s + 2 * g * (16 * a) → u ≤ t + 2 * g → v ≤ u + 2 * g → v ≤ s + 2 * g * (16 * a + 2)
+cost_true g s t u v a h k l =
+    let z : 2 * g * (16 * a + 2) ≡ 2 * g * (16 * a) + 4 * g = grind arith in
+    omega (arith, h, k, l, z)

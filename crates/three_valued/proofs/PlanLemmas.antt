@@ -13,11 +13,15 @@ use Rattle.where_plan.specs.declared.plan.Plan.TheVariants as plan
 use Rattle.where_plan.specs.declared.plan.Plan.TheVariants.{rolls-All, rolls-Or, rolls-Xor, rolls-And, rolls-Not, rolls-One}
 use Rattle.where_plan.specs.declared.plan.Plan.TheOpen.{Plan-F}
 use Rattle.where_plan.specs.declared.plan.Plan.TheFolds.{fold-Plan, fold-roll-Plan, ind-Plan}
+use Rattle.where_plan.specs.Plans.{atoms_of as conditions_of, joined as lists_joined}
+use Rattle.where_plan.specs.PlanHolds.{plan_atom_holds, plan_holds}
+use Rattle.where_plan.proofs.FoldLemmas.{atoms_of-all as conditions_of-all, atoms_of-or as conditions_of-or, atoms_of-xor as conditions_of-xor, atoms_of-and as conditions_of-and, atoms_of-not as conditions_of-not, atoms_of-one as conditions_of-one, plan_holds-all, plan_holds-or, plan_holds-xor, plan_holds-and, plan_holds-not, plan_holds-one}
+use Rattle.fb_types.specs.declared.cells.Cell.{Cell}
 use Rattle.wah_logic.specs.Logic.{xor}
 use Rattle.three_valued.specs.declared.connectives.Join.{Join}
 use Rattle.three_valued.specs.declared.connectives.Join.TheVariants as join
 use Rattle.three_valued.specs.Tables.{decided, joined, joins, three_and, three_not, three_or, three_xor}
-use Rattle.three_valued.specs.Plans.{atoms_by_parts, atoms_of, is_true, parts_by_parts, parts_in, parts_of, three, three_by_parts, truth_by_parts}
+use Rattle.three_valued.specs.Plans.{atoms_of, is_true, parts_by_parts, parts_in, parts_of, three, three_by_parts, truth_by_parts}
 
 -- ---- induction
 
@@ -106,33 +110,33 @@ is_true-one truth atom = ap (fold-Plan Bool (truth_by_parts truth)) (sym (rolls-
 
 -- ---- its conditions
 
-flat_mapped : {X A : Type 0} (f : X → List A) (xs : List X) → flat_map (λ part. part) (map f xs) ≡ flat_map f xs
-flat_mapped f [] = refl
-flat_mapped f (x ∷ xs) = ap (λ l. f x ++ l) (flat_mapped f xs)
+joined_mapped : {X A : Type 0} (f : X → List A) (xs : List X) → lists_joined (map f xs) ≡ flat_map f xs
+joined_mapped f [] = refl
+joined_mapped f (x ∷ xs) = ap (λ l. f x ++ l) (joined_mapped f xs)
 
 pub atoms_of-all : atoms_of plan.All ≡ []
 unfolding atoms_of
-atoms_of-all = ap (fold-Plan (List PlanAtom) atoms_by_parts) (sym rolls-All) ∙ fold-roll-Plan (List PlanAtom) atoms_by_parts Plan-F.All
+atoms_of-all = conditions_of-all
 
 pub atoms_of-or : (parts : List Plan) → atoms_of (plan.Or parts) ≡ flat_map atoms_of parts
 unfolding atoms_of
-atoms_of-or parts = ap (fold-Plan (List PlanAtom) atoms_by_parts) (sym (rolls-Or parts)) ∙ (fold-roll-Plan (List PlanAtom) atoms_by_parts (Plan-F.Or parts) ∙ flat_mapped atoms_of parts)
+atoms_of-or parts = conditions_of-or parts ∙ joined_mapped conditions_of parts
 
 pub atoms_of-xor : (parts : List Plan) → atoms_of (plan.Xor parts) ≡ flat_map atoms_of parts
 unfolding atoms_of
-atoms_of-xor parts = ap (fold-Plan (List PlanAtom) atoms_by_parts) (sym (rolls-Xor parts)) ∙ (fold-roll-Plan (List PlanAtom) atoms_by_parts (Plan-F.Xor parts) ∙ flat_mapped atoms_of parts)
+atoms_of-xor parts = conditions_of-xor parts ∙ joined_mapped conditions_of parts
 
 pub atoms_of-and : (parts : List Plan) → atoms_of (plan.And parts) ≡ flat_map atoms_of parts
 unfolding atoms_of
-atoms_of-and parts = ap (fold-Plan (List PlanAtom) atoms_by_parts) (sym (rolls-And parts)) ∙ (fold-roll-Plan (List PlanAtom) atoms_by_parts (Plan-F.And parts) ∙ flat_mapped atoms_of parts)
+atoms_of-and parts = conditions_of-and parts ∙ joined_mapped conditions_of parts
 
 pub atoms_of-not : (part : Plan) → atoms_of (plan.Not part) ≡ atoms_of part
 unfolding atoms_of
-atoms_of-not part = ap (fold-Plan (List PlanAtom) atoms_by_parts) (sym (rolls-Not part)) ∙ fold-roll-Plan (List PlanAtom) atoms_by_parts (Plan-F.Not part)
+atoms_of-not part = conditions_of-not part
 
 pub atoms_of-one : (atom : PlanAtom) → atoms_of (plan.One atom) ≡ atom ∷ []
 unfolding atoms_of
-atoms_of-one atom = ap (fold-Plan (List PlanAtom) atoms_by_parts) (sym (rolls-One atom)) ∙ fold-roll-Plan (List PlanAtom) atoms_by_parts (Plan-F.One atom)
+atoms_of-one atom = conditions_of-one atom
 
 -- ---- the number of parts
 
@@ -219,3 +223,31 @@ kept_by_recursion R kept answer truth = plan_induction P (record {
 
 pub kept_by_plans : (R : Three → Bool → Type 0) → IsKept R → (answer : PlanAtom → Three) (truth : PlanAtom → Bool) (p : Plan) → All (λ atom. R (answer atom) (truth atom)) (atoms_of p) → R (three answer p) (is_true truth p)
 kept_by_plans R kept answer truth p all = kept_by_recursion R kept answer truth p (recursion_from_All (λ atom. R (answer atom) (truth atom)) (atoms_of p) all)
+
+-- ---- the truth on a record
+
+map_same : {X : Type 0} (f g : X → Bool) (xs : List X) → AllByRecursion (λ x. f x ≡ g x) xs → map f xs ≡ map g xs
+map_same f g [] h = refl
+map_same f g (x ∷ xs) h = rw (h.0, map_same f g xs h.1) refl
+
+record_truth_by : (cells : List Cell) (p : Plan) → is_true (λ atom. plan_atom_holds atom cells) p ≡ plan_holds p cells
+record_truth_by cells = plan_induction P (record {
+    on_all = is_true-all truth ∙ sym (plan_holds-all cells);
+    on_or = λ parts h. is_true-or truth parts ∙ sym (any_mapped f parts) ∙ ap (list_any (λ b. b)) (map_same f g parts h) ∙ sym (plan_holds-or cells parts);
+    on_xor = λ parts h. is_true-xor truth parts ∙ ap odd_many (map_same f g parts h) ∙ sym (plan_holds-xor cells parts);
+    on_and = λ parts h. is_true-and truth parts ∙ sym (all_mapped f parts) ∙ ap (list_all (λ b. b)) (map_same f g parts h) ∙ sym (plan_holds-and cells parts);
+    on_not = λ part h. is_true-not truth part ∙ ap not h ∙ sym (plan_holds-not cells part);
+    on_one = λ atom. is_true-one truth atom ∙ sym (plan_holds-one cells atom)
+  })
+  where
+    truth : PlanAtom → Bool
+    truth atom = plan_atom_holds atom cells
+    f : Plan → Bool
+    f p = is_true truth p
+    g : Plan → Bool
+    g p = plan_holds p cells
+    P : Plan → Type 0
+    P p = is_true truth p ≡ plan_holds p cells
+
+pub record_truth : (p : Plan) (cells : List Cell) → is_true (λ atom. plan_atom_holds atom cells) p ≡ plan_holds p cells
+record_truth p cells = record_truth_by cells p

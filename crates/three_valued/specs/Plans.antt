@@ -1,6 +1,6 @@
 -- The three-valued answer of a plan, its truth, its conditions, and its size.
 use Rattle.std.specs.Prelude.{◌≡◌, ℕ, ◌+◌, Bool, true, false, not, List, [], ◌∷◌, length, sum, All, if◌then◌else◌}
-use Rattle.std.specs.List.{flat_map, list_all, list_any}
+use Rattle.std.specs.List.{list_all, list_any}
 use Rattle.binning.specs.declared.against_bins.Three.{Three}
 use Rattle.binning.specs.declared.against_bins.Three.TheVariants.{Yes, No, Unknown}
 use Rattle.where_grammar.specs.Holds.{odd_many}
@@ -8,6 +8,7 @@ use Rattle.where_plan.specs.declared.plan.PlanAtom.{PlanAtom}
 use Rattle.where_plan.specs.declared.plan.Plan.{Plan}
 use Rattle.where_plan.specs.declared.plan.Plan.TheOpen.{Plan-F}
 use Rattle.where_plan.specs.declared.plan.Plan.TheFolds.{fold-Plan}
+use Rattle.where_plan.specs.Plans.{atoms_of as conditions_of}
 use Rattle.three_valued.specs.declared.connectives.Join.TheVariants as join
 use Rattle.three_valued.specs.Tables.{decided, is_unknown, joined, three_not}
 
@@ -39,16 +40,8 @@ is_true truth plan = fold-Plan Bool (truth_by_parts truth) plan
 
 -- ---- the conditions, from left to right
 
-abbrev pub atoms_by_parts : Plan-F (List PlanAtom) → List PlanAtom
-atoms_by_parts Plan-F.All = []
-atoms_by_parts (Plan-F.Or parts) = flat_map (λ part. part) parts
-atoms_by_parts (Plan-F.Xor parts) = flat_map (λ part. part) parts
-atoms_by_parts (Plan-F.And parts) = flat_map (λ part. part) parts
-atoms_by_parts (Plan-F.Not part) = part
-atoms_by_parts (Plan-F.One atom) = atom ∷ []
-
 unfoldable pub atoms_of : Plan → List PlanAtom
-atoms_of plan = fold-Plan (List PlanAtom) atoms_by_parts plan
+atoms_of plan = conditions_of plan
 
 -- ---- the number of parts of each `or`, `xor`, `and` and `not`
 

@@ -77,32 +77,32 @@ fn either_alone<L: Ledger>(
 /// Unknown where a part is, else Yes where one part alone is.
 fn exactly_one<L: Ledger>(
     alloc: Global,
-    a: &Answers,
-    b: &Answers,
+    first: &Answers,
+    second: &Answers,
     steps: &mut Steps<L>,
 ) -> Result<Answers, AllocError>
-    requires { length a.now ≡ length b.now }
-    ensures answers { IfOk result (λ r. r ≡ rowwise three_xor a.now b.now) }
-    ensures steps { steps.new ≤ steps.old + 12 * groups_and_rest (length a.now) }
+    requires { length first.now ≡ length second.now }
+    ensures answers { IfOk result (λ r. r ≡ rowwise three_xor first.now second.now) }
+    ensures steps { steps.new ≤ steps.old + 12 * groups_and_rest (length first.now) }
 {
-    if a.is_known() && b.is_known() {
-        let rows = wah_logic::combined::<Xor, L>(alloc, a.definite(), b.definite(), steps)?;
+    if first.is_known() && second.is_known() {
+        let rows = wah_logic::combined::<Xor, L>(alloc, first.definite(), second.definite(), steps)?;
         return Ok(Answers::known(rows));
     }
     let definite = either_alone(
         alloc,
-        a.definite(),
-        b.possible(),
-        b.definite(),
-        a.possible(),
+        first.definite(),
+        second.possible(),
+        second.definite(),
+        first.possible(),
         steps,
     )?;
     let possible = either_alone(
         alloc,
-        a.possible(),
-        b.definite(),
-        b.possible(),
-        a.definite(),
+        first.possible(),
+        second.definite(),
+        second.possible(),
+        first.definite(),
         steps,
     )?;
     Ok(Answers::within(definite, possible))

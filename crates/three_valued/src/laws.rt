@@ -2,9 +2,11 @@
 ghost use Rattle.std.specs.Prelude.{◌≡◌, ℕ, ◌<◌, ◌≤◌, Bool, true, false, not, List, if◌then◌else◌, map};
 ghost use Rattle.std.specs.List.{list_all, list_any};
 ghost use Rattle.binning.specs.declared.against_bins.Three.{Three};
+ghost use Rattle.fb_types.specs.declared.cells.Cell.{Cell};
 ghost use Rattle.where_grammar.specs.Holds.{odd_many};
 ghost use Rattle.where_plan.specs.declared.plan.PlanAtom.{PlanAtom};
 ghost use Rattle.where_plan.specs.declared.plan.Plan.{Plan};
+ghost use Rattle.where_plan.specs.PlanHolds.{plan_atom_holds, plan_holds};
 ghost use Rattle.three_valued.specs.Tables.{decided, is_no, is_unknown, is_yes};
 ghost use Rattle.three_valued.specs.Plans.{AreDecided, AreSound, IsSound, atoms_of, is_true, settled, three};
 ghost use Rattle.three_valued.specs.Candidates.{definite_rows, possible_rows, true_rows};
@@ -25,14 +27,16 @@ pub fn the_answers_of_plans()
     ensures not_unknown { (answer : PlanAtom → Three) (part : Plan) → three answer part ≡ Three.Unknown → three answer (Plan.Not part) ≡ Three.Unknown }
 {}
 
-/// The truth of a plan from that of its parts.
-pub fn the_truth_of_plans()
+/// The truth of a plan from that of its parts. With the truth of its conditions on a record, it is whether the plan holds of
+/// the record.
+pub fn the_truth_from_conditions()
     ensures all { (truth : PlanAtom → Bool) → is_true truth Plan.All ≡ true }
     ensures one { (truth : PlanAtom → Bool) (atom : PlanAtom) → is_true truth (Plan.One atom) ≡ truth atom }
     ensures or { (truth : PlanAtom → Bool) (parts : List Plan) → is_true truth (Plan.Or parts) ≡ list_any (λ part. is_true truth part) parts }
     ensures xor { (truth : PlanAtom → Bool) (parts : List Plan) → is_true truth (Plan.Xor parts) ≡ odd_many (map (λ part. is_true truth part) parts) }
     ensures and { (truth : PlanAtom → Bool) (parts : List Plan) → is_true truth (Plan.And parts) ≡ list_all (λ part. is_true truth part) parts }
     ensures not { (truth : PlanAtom → Bool) (part : Plan) → is_true truth (Plan.Not part) ≡ not (is_true truth part) }
+    ensures on_a_record { (plan : Plan) (cells : List Cell) → is_true (λ atom. plan_atom_holds atom cells) plan ≡ plan_holds plan cells }
 {}
 
 /// Where the Yes of each condition means true and its No false, so do the plan's.

@@ -49,13 +49,13 @@ all_rows whole again unknown truth same is sound exact =
     let long : length (each_place or (map is_yes whole) inner) ≡ n = length-each or (map is_yes whole) inner (long_whole ∙ sym long_inner) ∙ long_whole in
     ap (λ u. each_place or (map is_yes whole) (each_place and (map is_yes again) u)) is
     ∙ fill_by_all truth (each_place or (map is_yes whole) inner) n false long (λ k below.
-        get_or-each or (map is_yes whole) inner k (long_whole ∙ sym long_inner) (omega (arith, below, long_whole))
-        ∙ ap (λ x. or x (get_or inner k false)) (get_or-map is_yes whole k No false below)
-        ∙ ap (or (is_yes (get_or whole k No))) (
-            get_or-each and (map is_yes again) open_ k (long_again ∙ sym long_open) (omega (arith, below, long_again))
-            ∙ ap (λ x. and x (get_or open_ k false)) (get_or-map is_yes again k No false (omega (arith, below, same)))
-            ∙ ap (and (is_yes (get_or again k No))) (get_or-map is_unknown whole k No false below))
-        ∙ one_row (get_or whole k No) (get_or again k No) (truth k) (sound k below) (exact k below))
+    get_or-each or (map is_yes whole) inner k (long_whole ∙ sym long_inner) (omega (arith, below, long_whole))
+    ∙ ap (λ x. or x (get_or inner k false)) (get_or-map is_yes whole k No false below)
+    ∙ ap (or (is_yes (get_or whole k No))) (
+    get_or-each and (map is_yes again) open_ k (long_again ∙ sym long_open) (omega (arith, below, long_again))
+    ∙ ap (λ x. and x (get_or open_ k false)) (get_or-map is_yes again k No false (omega (arith, below, same)))
+    ∙ ap (and (is_yes (get_or again k No))) (get_or-map is_unknown whole k No false below))
+    ∙ one_row (get_or whole k No) (get_or again k No) (truth k) (sound k below) (exact k below))
 
 pub drop_none : {X : Type 0} (xs ys : List X) → xs ≡ ys → drop 0 xs ≡ ys ++ []
 drop_none xs ys e = e ∙ sym (append-nil ys)
@@ -63,9 +63,9 @@ drop_none xs ys e = e ∙ sym (append-nil ys)
 pub decided_rows : (plan : Plan) (whole again : List Three) (unknown : List Bool) (answer : ℕ → PlanAtom → Three) (truth : ℕ → PlanAtom → Bool) → unknown ≡ map is_unknown whole → again ≡ each_row (length whole) (λ row. three (answer row) plan) → Decides plan whole answer truth → each_place or (map is_yes whole) (each_place and (map is_yes again) unknown) ≡ each_row (length whole) (λ row. is_true (truth row) plan)
 decided_rows plan whole again unknown answer truth is same decides =
     all_rows whole again unknown (λ row. is_true (truth row) plan)
-      (ap length same ∙ length-map-range_with_len (λ row. three (answer row) plan) 0 (length whole)) is
-      decides.sound
-      (λ row below open_. ap (λ l. get_or l row No) same ∙ get_or-map-range_with_len (λ row. three (answer row) plan) 0 (length whole) row row No below (omega arith) ∙ decided_plans (answer row) (truth row) plan (decides.exact row below open_))
+    (ap length same ∙ length-map-range_with_len (λ row. three (answer row) plan) 0 (length whole)) is
+    decides.sound
+    (λ row below open_. ap (λ l. get_or l row No) same ∙ get_or-map-range_with_len (λ row. three (answer row) plan) 0 (length whole) row row No below (omega arith) ∙ decided_plans (answer row) (truth row) plan (decides.exact row below open_))
 
 pub rows_from : (v d e f unknown : List Bool) (whole again : List Three) → v ≡ each_place or d e → d ≡ map is_yes whole → e ≡ each_place and f unknown → f ≡ map is_yes again → v ≡ each_place or (map is_yes whole) (each_place and (map is_yes again) unknown)
 rows_from v d e f unknown whole again is h k l = is ∙ rw (h, k, l) refl

@@ -37,7 +37,7 @@ cut_front rows answers next answer atoms others more e =
     let column = λ (atom : PlanAtom). each_row rows (λ row. answer row atom) in
     let front : drop next answers ≡ columns rows answer atoms ++ (columns rows answer others ++ more) = e ∙ ap (λ l. l ++ more) (map-append column atoms others) ∙ append_assoc (columns rows answer atoms) (columns rows answer others) more in
     let back : drop (next + length atoms) answers ≡ columns rows answer others ++ more =
-        drop_twice next (length atoms) answers ∙ ap (drop (length atoms)) front ∙ ap (λ n. drop n (columns rows answer atoms ++ (columns rows answer others ++ more))) (sym (length-columns rows answer atoms)) ∙ drop_front (columns rows answer atoms) (columns rows answer others ++ more) in
+    drop_twice next (length atoms) answers ∙ ap (drop (length atoms)) front ∙ ap (λ n. drop n (columns rows answer atoms ++ (columns rows answer others ++ more))) (sym (length-columns rows answer atoms)) ∙ drop_front (columns rows answer atoms) (columns rows answer others ++ more) in
     (front, back)
 
 -- ---- parts joined so far, and parts still to come
@@ -78,32 +78,35 @@ first_part join rows answers start parts held next first rest e moved long says 
       cursor = omega (arith, moved, length-append (atoms_of first) (flat_map atoms_of rest));
       long = long;
       values = λ answer more told.
-        let cut = cut_front rows answers start answer (atoms_of first) (flat_map atoms_of rest) more told in
-        let is : held ≡ plan_rows rows answer first = says answer (columns rows answer (flat_map atoms_of rest) ++ more) cut.0 in
-        (ap (λ n. drop n answers) moved ∙ cut.1, ap (λ l. rowwise (joins join) l (joined_rows join rows answer rest)) is ∙ joined_more join rows answer first rest);
+          let cut = cut_front rows answers start answer (atoms_of first) (flat_map atoms_of rest) more told in
+          let is : held ≡ plan_rows rows answer first = says answer (columns rows answer (flat_map atoms_of rest) ++ more) cut.0 in
+          (ap (λ n. drop n answers) moved ∙ cut.1, ap (λ l. rowwise (joins join) l (joined_rows join rows answer rest)) is ∙ joined_more join rows answer first rest);
     })
 
 pub next_part : (join : Join) (rows : ℕ) (answers : List (List Three)) (start : ℕ) (parts : List Plan) (held made : List Three) (next after : ℕ) (part : Plan) (rest : List Plan) → HoldsParts join rows answers start parts held next (part ∷ rest) → after ≡ next + length (atoms_of part) → length made ≡ rows → ((answer : ℕ → PlanAtom → Three) (more : List (List Three)) → drop next answers ≡ columns rows answer (atoms_of part) ++ more → made ≡ rowwise (joins join) held (plan_rows rows answer part)) → HoldsParts join rows answers start parts made after rest
 next_part join rows answers start parts held made next after part rest before moved long says = record {
-    cursor = omega (arith, before.cursor, moved, length-append (atoms_of part) (flat_map atoms_of rest));
-    long = long;
-    values = λ answer more told.
+  cursor = omega (arith, before.cursor, moved, length-append (atoms_of part) (flat_map atoms_of rest));
+  long = long;
+  values = λ answer more told.
       let both = before.values answer more told in
       let cut = cut_front rows answers next answer (atoms_of part) (flat_map atoms_of rest) more both.0 in
-      let is : made ≡ rowwise (joins join) held (plan_rows rows answer part) = says answer (columns rows answer (flat_map atoms_of rest) ++ more) cut.0 in
-      (ap (λ n. drop n answers) moved ∙ cut.1,
+      let is : made ≡ rowwise (joins join) held (plan_rows rows answer part) = says answer (columns rows answer (flat_map atoms_of rest) ++ more) cut.0 in (
+        ap (λ n. drop n answers) moved ∙ cut.1,
         ap (λ l. rowwise (joins join) l (joined_rows join rows answer rest)) is
-        ∙ rowwise-assoc join held (plan_rows rows answer part) (joined_rows join rows answer rest)
-        ∙ ap (rowwise (joins join) held) (joined_more join rows answer part rest)
-        ∙ both.1);
-  }
+            ∙ rowwise-assoc join held (plan_rows rows answer part) (joined_rows join rows answer rest)
+            ∙ ap (rowwise (joins join) held) (joined_more join rows answer part rest)
+            ∙ both.1,
+      );
+}
 
 pub no_more_parts : (join : Join) (rows : ℕ) (answers : List (List Three)) (start : ℕ) (parts : List Plan) (held : List Three) (next : ℕ) (rest : List Plan) → rest ≡ [] → HoldsParts join rows answers start parts held next rest → (next ≡ start + length (flat_map atoms_of parts)) × ((answer : ℕ → PlanAtom → Three) (more : List (List Three)) → drop start answers ≡ columns rows answer (flat_map atoms_of parts) ++ more → held ≡ joined_rows join rows answer parts)
 unfolding joined
 no_more_parts join rows answers start parts held next rest e before =
-    let last : HoldsParts join rows answers start parts held next [] = subst (λ (l : List Plan). HoldsParts join rows answers start parts held next l) e before in
-    (omega (arith, last.cursor), λ answer more told.
-      sym (rowwise-unit join held (range_with_len 0 rows) (last.long ∙ sym (length-range_with_len 0 rows))) ∙ (last.values answer more told).1)
+    let last : HoldsParts join rows answers start parts held next [] = subst (λ (l : List Plan). HoldsParts join rows answers start parts held next l) e before in (
+      omega (arith, last.cursor),
+      λ answer more told.
+          sym (rowwise-unit join held (range_with_len 0 rows) (last.long ∙ sym (length-range_with_len 0 rows))) ∙ (last.values answer more told).1,
+    )
 
 -- ---- steps
 

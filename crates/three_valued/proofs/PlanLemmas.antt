@@ -206,18 +206,20 @@ parts_follow Q P (part ∷ parts) h all =
 
 kept_by_recursion : (R : Three → Bool → Type 0) → IsKept R → (answer : PlanAtom → Three) (truth : PlanAtom → Bool) (p : Plan) → AllByRecursion (λ atom. R (answer atom) (truth atom)) (atoms_of p) → R (three answer p) (is_true truth p)
 kept_by_recursion R kept answer truth = plan_induction P (record {
-    on_all = λ all. rw (three-all answer, is_true-all truth) kept.on_yes;
-    on_or = λ parts h all. rw (three-or answer parts, is_true-or truth parts) (or_kept R kept (three answer) (is_true truth) parts (parts_follow Q S parts h (subst (AllByRecursion Q) (atoms_of-or parts) all)));
-    on_xor = λ parts h all. rw (three-xor answer parts, is_true-xor truth parts) (xor_kept R kept (three answer) (is_true truth) parts (parts_follow Q S parts h (subst (AllByRecursion Q) (atoms_of-xor parts) all)));
-    on_and = λ parts h all. rw (three-and answer parts, is_true-and truth parts) (and_kept R kept (three answer) (is_true truth) parts (parts_follow Q S parts h (subst (AllByRecursion Q) (atoms_of-and parts) all)));
-    on_not = λ part h all. rw (three-not answer part, is_true-not truth part) (kept.on_not (three answer part) (is_true truth part) (h (subst (AllByRecursion Q) (atoms_of-not part) all)));
-    on_one = λ atom all. rw (three-one answer atom, is_true-one truth atom) (subst (AllByRecursion Q) (atoms_of-one atom) all).0
-  })
+  on_all = λ all. rw (three-all answer, is_true-all truth) kept.on_yes;
+  on_or = λ parts h all. rw (three-or answer parts, is_true-or truth parts) (or_kept R kept (three answer) (is_true truth) parts (parts_follow Q S parts h (subst (AllByRecursion Q) (atoms_of-or parts) all)));
+  on_xor = λ parts h all. rw (three-xor answer parts, is_true-xor truth parts) (xor_kept R kept (three answer) (is_true truth) parts (parts_follow Q S parts h (subst (AllByRecursion Q) (atoms_of-xor parts) all)));
+  on_and = λ parts h all. rw (three-and answer parts, is_true-and truth parts) (and_kept R kept (three answer) (is_true truth) parts (parts_follow Q S parts h (subst (AllByRecursion Q) (atoms_of-and parts) all)));
+  on_not = λ part h all. rw (three-not answer part, is_true-not truth part) (kept.on_not (three answer part) (is_true truth part) (h (subst (AllByRecursion Q) (atoms_of-not part) all)));
+  on_one = λ atom all. rw (three-one answer atom, is_true-one truth atom) (subst (AllByRecursion Q) (atoms_of-one atom) all).0;
+})
   where
     Q : PlanAtom → Type 0
     Q atom = R (answer atom) (truth atom)
+
     S : Plan → Type 0
     S p = R (three answer p) (is_true truth p)
+
     P : Plan → Type 0
     P p = AllByRecursion Q (atoms_of p) → S p
 
@@ -232,20 +234,23 @@ map_same f g (x ∷ xs) h = rw (h.0, map_same f g xs h.1) refl
 
 record_truth_by : (cells : List Cell) (p : Plan) → is_true (λ atom. plan_atom_holds atom cells) p ≡ plan_holds p cells
 record_truth_by cells = plan_induction P (record {
-    on_all = is_true-all truth ∙ sym (plan_holds-all cells);
-    on_or = λ parts h. is_true-or truth parts ∙ sym (any_mapped f parts) ∙ ap (list_any (λ b. b)) (map_same f g parts h) ∙ sym (plan_holds-or cells parts);
-    on_xor = λ parts h. is_true-xor truth parts ∙ ap odd_many (map_same f g parts h) ∙ sym (plan_holds-xor cells parts);
-    on_and = λ parts h. is_true-and truth parts ∙ sym (all_mapped f parts) ∙ ap (list_all (λ b. b)) (map_same f g parts h) ∙ sym (plan_holds-and cells parts);
-    on_not = λ part h. is_true-not truth part ∙ ap not h ∙ sym (plan_holds-not cells part);
-    on_one = λ atom. is_true-one truth atom ∙ sym (plan_holds-one cells atom)
-  })
+  on_all = is_true-all truth ∙ sym (plan_holds-all cells);
+  on_or = λ parts h. is_true-or truth parts ∙ sym (any_mapped f parts) ∙ ap (list_any (λ b. b)) (map_same f g parts h) ∙ sym (plan_holds-or cells parts);
+  on_xor = λ parts h. is_true-xor truth parts ∙ ap odd_many (map_same f g parts h) ∙ sym (plan_holds-xor cells parts);
+  on_and = λ parts h. is_true-and truth parts ∙ sym (all_mapped f parts) ∙ ap (list_all (λ b. b)) (map_same f g parts h) ∙ sym (plan_holds-and cells parts);
+  on_not = λ part h. is_true-not truth part ∙ ap not h ∙ sym (plan_holds-not cells part);
+  on_one = λ atom. is_true-one truth atom ∙ sym (plan_holds-one cells atom);
+})
   where
     truth : PlanAtom → Bool
     truth atom = plan_atom_holds atom cells
+
     f : Plan → Bool
     f p = is_true truth p
+
     g : Plan → Bool
     g p = plan_holds p cells
+
     P : Plan → Type 0
     P p = is_true truth p ≡ plan_holds p cells
 

@@ -132,9 +132,9 @@ true_is_possible Unknown t h k = refl
 pub definite_le : (rows : ℕ) (answer : ℕ → PlanAtom → Three) (truth : ℕ → PlanAtom → Bool) (plan : Plan) → ((row : ℕ) → row < rows → AreSound (answer row) (truth row) (atoms_of plan)) → definite_rows rows answer plan ≤ true_rows rows truth plan
 definite_le rows answer truth plan h =
     count_le (λ row. is_yes (three (answer row) plan)) (λ row. is_true (truth row) plan) (range_with_len 0 rows)
-        (range_all (λ row. is_yes (three (answer row) plan) ≡ true → is_true (truth row) plan ≡ true) 0 rows (λ row below. yes_is_true (three (answer row) plan) (is_true (truth row) plan) (sound_plans (answer row) (truth row) plan (h row (omega (arith, below))))))
+    (range_all (λ row. is_yes (three (answer row) plan) ≡ true → is_true (truth row) plan ≡ true) 0 rows (λ row below. yes_is_true (three (answer row) plan) (is_true (truth row) plan) (sound_plans (answer row) (truth row) plan (h row (omega (arith, below))))))
 
 pub possible_ge : (rows : ℕ) (answer : ℕ → PlanAtom → Three) (truth : ℕ → PlanAtom → Bool) (plan : Plan) → ((row : ℕ) → row < rows → AreSound (answer row) (truth row) (atoms_of plan)) → true_rows rows truth plan ≤ possible_rows rows answer plan
 possible_ge rows answer truth plan h =
     count_le (λ row. is_true (truth row) plan) (λ row. is_possible (three (answer row) plan)) (range_with_len 0 rows)
-        (range_all (λ row. is_true (truth row) plan ≡ true → is_possible (three (answer row) plan) ≡ true) 0 rows (λ row below. true_is_possible (three (answer row) plan) (is_true (truth row) plan) (sound_plans (answer row) (truth row) plan (h row (omega (arith, below))))))
+    (range_all (λ row. is_true (truth row) plan ≡ true → is_possible (three (answer row) plan) ≡ true) 0 rows (λ row below. true_is_possible (three (answer row) plan) (is_true (truth row) plan) (sound_plans (answer row) (truth row) plan (h row (omega (arith, below))))))

@@ -110,6 +110,7 @@ and_acts = record { definite = definite; possible = possible }
     definite Unknown Yes = refl
     definite Unknown No = refl
     definite Unknown Unknown = refl
+
     possible : (x y : Three) → is_possible (three_and x y) ≡ and (is_possible x) (is_possible y)
     possible Yes y = refl
     possible No y = refl
@@ -126,6 +127,7 @@ or_acts = record { definite = definite; possible = possible }
     definite Unknown Yes = refl
     definite Unknown No = refl
     definite Unknown Unknown = refl
+
     possible : (x y : Three) → is_possible (three_or x y) ≡ or (is_possible x) (is_possible y)
     possible Yes y = refl
     possible No y = refl

@@ -86,7 +86,12 @@ fn exactly_one<L: Ledger>(
     ensures steps { steps.new ≤ steps.old + 12 * groups_and_rest (length first.now) }
 {
     if first.is_known() && second.is_known() {
-        let rows = wah_logic::combined::<Xor, L>(alloc, first.definite(), second.definite(), steps)?;
+        let rows = wah_logic::combined::<Xor, L>(
+            alloc,
+            first.definite(),
+            second.definite(),
+            steps,
+        )?;
         return Ok(Answers::known(rows));
     }
     let definite = either_alone(

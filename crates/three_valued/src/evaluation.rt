@@ -59,9 +59,33 @@ pub fn combined<'a, L: Ledger>(
 {
     match plan {
         Plan::All => Ok(Held::Made(Answers::uniform(alloc, true, rows)?)),
-        Plan::Or(parts) => joined(alloc, Join::Or, parts.as_slice(), rows, answers, next, steps),
-        Plan::Xor(parts) => joined(alloc, Join::Xor, parts.as_slice(), rows, answers, next, steps),
-        Plan::And(parts) => joined(alloc, Join::And, parts.as_slice(), rows, answers, next, steps),
+        Plan::Or(parts) => joined(
+            alloc,
+            Join::Or,
+            parts.as_slice(),
+            rows,
+            answers,
+            next,
+            steps,
+        ),
+        Plan::Xor(parts) => joined(
+            alloc,
+            Join::Xor,
+            parts.as_slice(),
+            rows,
+            answers,
+            next,
+            steps,
+        ),
+        Plan::And(parts) => joined(
+            alloc,
+            Join::And,
+            parts.as_slice(),
+            rows,
+            answers,
+            next,
+            steps,
+        ),
         Plan::Not(part) => {
             let held = combined(alloc, part.get(), rows, answers, next, steps)?;
             Ok(Held::Made(negated(alloc, held.get(), steps)?))

@@ -17,8 +17,7 @@ pub use deciding::{candidates, exact, true_rows};
 pub use evaluation::{Held, combined};
 pub use laws::{
     estimates_enclose, known_answers_are_the_truth, sound_answers, the_answers_of_plans,
-    the_truth_from_conditions,
-    unknown_rows_decide,
+    the_truth_from_conditions, unknown_rows_decide,
 };
 pub use row_answers::Answers;
 

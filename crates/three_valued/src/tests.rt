@@ -14,6 +14,7 @@ use where_plan::{Plan, PlanAtom};
 /// Answers on nine rows: the bits of the rows that are Yes, and of those that are Unknown, the first row highest. These
 /// two have each pair of answers.
 const FIRST: (u16, u16) = (0b111_000_000, 0b000_000_111);
+
 const SECOND: (u16, u16) = (0b100_100_100, 0b001_001_001);
 
 /// The vector of these bits, from its bytes.
@@ -47,9 +48,7 @@ fn answers<L: Ledger>(
     let Some(unknown) = vector(alloc, bits.1)? else {
         return Ok(None);
     };
-    Ok(Some(Answers::with_unknown(
-        alloc, definite, &unknown, steps,
-    )?))
+    Ok(Some(Answers::with_unknown(alloc, definite, &unknown, steps)?))
 }
 
 fn listed<L: Ledger>(
@@ -140,9 +139,33 @@ fn tables_of_two_have_nine_pairs(rt: HostRuntime) -> Result<(), Fail> {
     let or = plan_of(alloc, Join::Or, 2)?;
     let xor = plan_of(alloc, Join::Xor, 2)?;
     let both = [FIRST, SECOND];
-    assert!(rt; gives::<Brand>(rt.blank(), alloc, &and, &both, (0b100_000_000, 0b001_000_101))?);
-    assert!(rt; gives::<Brand>(rt.blank(), alloc, &or, &both, (0b111_100_100, 0b000_001_011))?);
-    assert!(rt; gives::<Brand>(rt.blank(), alloc, &xor, &both, (0b010_100_000, 0b001_001_111))?);
+    assert!(rt;
+        gives::<Brand>(
+            rt.blank(),
+            alloc,
+            &and,
+            &both,
+            (0b100_000_000, 0b001_000_101)
+        )?
+    );
+    assert!(rt;
+        gives::<Brand>(
+            rt.blank(),
+            alloc,
+            &or,
+            &both,
+            (0b111_100_100, 0b000_001_011)
+        )?
+    );
+    assert!(rt;
+        gives::<Brand>(
+            rt.blank(),
+            alloc,
+            &xor,
+            &both,
+            (0b010_100_000, 0b001_001_111)
+        )?
+    );
     Ok(())
 }
 
@@ -150,7 +173,15 @@ fn tables_of_two_have_nine_pairs(rt: HostRuntime) -> Result<(), Fail> {
 fn not_leaves_unknown(rt: HostRuntime) -> Result<(), Fail> {
     let alloc = rt.alloc();
     let not = turned(alloc)?;
-    assert!(rt; gives::<Brand>(rt.blank(), alloc, &not, &[FIRST], (0b000_111_000, 0b000_000_111))?);
+    assert!(rt;
+        gives::<Brand>(
+            rt.blank(),
+            alloc,
+            &not,
+            &[FIRST],
+            (0b000_111_000, 0b000_000_111)
+        )?
+    );
     Ok(())
 }
 
@@ -164,7 +195,23 @@ fn no_part_or_many(rt: HostRuntime) -> Result<(), Fail> {
     many[999] = SECOND;
     assert!(rt; gives::<Brand>(rt.blank(), alloc, &none, &[], (0b111_111_111, 0))?);
     let list = [FIRST, SECOND, SECOND];
-    assert!(rt; gives::<Brand>(rt.blank(), alloc, &three, &list, (0b110_000_000, 0b001_001_111))?);
-    assert!(rt; gives::<Brand>(rt.blank(), alloc, &thousand, &many, (0b111_100_100, 0b000_001_011))?);
+    assert!(rt;
+        gives::<Brand>(
+            rt.blank(),
+            alloc,
+            &three,
+            &list,
+            (0b110_000_000, 0b001_001_111)
+        )?
+    );
+    assert!(rt;
+        gives::<Brand>(
+            rt.blank(),
+            alloc,
+            &thousand,
+            &many,
+            (0b111_100_100, 0b000_001_011)
+        )?
+    );
     Ok(())
 }

@@ -170,18 +170,74 @@ const LOG: &str =
 #[test]
 fn loads_of_all_types(rt: HostRuntime) -> Result<(), Fail> {
     let mut store = MemStore::make(rt.alloc(), &[], 0)?;
-    expect_load(&rt, rt.blank(), &mut store, LOAD, "1\n", 0, "loaded 1 rows\n")?;
+    expect_load(
+        &rt,
+        rt.blank(),
+        &mut store,
+        LOAD,
+        "1\n",
+        0,
+        "loaded 1 rows\n",
+    )?;
     let differs = "error 4 schema differs at column 1\n";
     expect_load(&rt, rt.blank(), &mut store, LOAD_LONG, "2\n", 4, differs)?;
-    expect_load(&rt, rt.blank(), &mut store, LOAD, "5\n7\n", 0, "loaded 2 rows\n")?;
-    expect_load(&rt, rt.blank(), &mut store, LOAD_TWO, "1,\n", 0, "loaded 1 rows\n")?;
-    expect_load(&rt, rt.blank(), &mut store, SKIP, "x\n4\n", 0, "loaded 1 rows\n")?;
+    expect_load(
+        &rt,
+        rt.blank(),
+        &mut store,
+        LOAD,
+        "5\n7\n",
+        0,
+        "loaded 2 rows\n",
+    )?;
+    expect_load(
+        &rt,
+        rt.blank(),
+        &mut store,
+        LOAD_TWO,
+        "1,\n",
+        0,
+        "loaded 1 rows\n",
+    )?;
+    expect_load(
+        &rt,
+        rt.blank(),
+        &mut store,
+        SKIP,
+        "x\n4\n",
+        0,
+        "loaded 1 rows\n",
+    )?;
     let range = "error 3 record 1 field 1 OutOfRange\n";
     expect_load(&rt, rt.blank(), &mut store, LOAD_BYTES, "128\n", 3, range)?;
-    expect_load(&rt, rt.blank(), &mut store, LOAD_BYTES, "-128\n", 0, "loaded 1 rows\n")?;
+    expect_load(
+        &rt,
+        rt.blank(),
+        &mut store,
+        LOAD_BYTES,
+        "-128\n",
+        0,
+        "loaded 1 rows\n",
+    )?;
     let words = "1,x\n,\n 2 ,\"a,b\"\n";
-    expect_load(&rt, rt.blank(), &mut store, WORDS, words, 0, "loaded 3 rows\n")?;
-    expect_load(&rt, rt.blank(), &mut store, WEB_LOG, LOG, 0, "loaded 4 rows\n")?;
+    expect_load(
+        &rt,
+        rt.blank(),
+        &mut store,
+        WORDS,
+        words,
+        0,
+        "loaded 3 rows\n",
+    )?;
+    expect_load(
+        &rt,
+        rt.blank(),
+        &mut store,
+        WEB_LOG,
+        LOG,
+        0,
+        "loaded 4 rows\n",
+    )?;
     expect_file(
         &rt,
         &store,
@@ -202,12 +258,27 @@ fn loads_of_all_types(rt: HostRuntime) -> Result<(), Fail> {
 fn loads_cut_into_parts(rt: HostRuntime) -> Result<(), Fail> {
     let mut store = MemStore::make(rt.alloc(), &[], 0)?;
     let five = "1\n2\n3\n4\n5\n";
-    expect_load(&rt, rt.blank(), &mut store, LOAD_PARTS, five, 0, "loaded 5 rows\n")?;
+    expect_load(
+        &rt,
+        rt.blank(),
+        &mut store,
+        LOAD_PARTS,
+        five,
+        0,
+        "loaded 5 rows\n",
+    )?;
     expect_file(&rt, &store, "P/p0000/a", b"\x01\0\0\0\x02\0\0\0");
     expect_file(&rt, &store, "P/p0001/a", b"\x03\0\0\0\x04\0\0\0");
     expect_file(&rt, &store, "P/p0002/a", b"\x05\0\0\0");
     let list = "schema a:int\npart 0 rows 2\npart 1 rows 2\npart 2 rows 1\n";
-    expect_asked(&rt, rt.blank(), &mut store, &["ibis", "-l", "-d", "P"], 0, list)?;
+    expect_asked(
+        &rt,
+        rt.blank(),
+        &mut store,
+        &["ibis", "-l", "-d", "P"],
+        0,
+        list,
+    )?;
     let below = &["ibis", "-d", "P", "-q", "where A < 4"];
     expect_asked(&rt, rt.blank(), &mut store, below, 0, "hits 3\n")?;
     let rows = &["ardea", "-d", "P", "-m", "a:int", "-p", "4194305"];
@@ -225,7 +296,12 @@ fn a_load_makes_at_most_1024_parts(rt: HostRuntime) -> Result<(), Fail> {
     }
     let parts = "error 9 limit parts 1025 over 1024\n";
     let words = &["ardea", "-d", "x", "-m", "a:int", "-p", "1"];
-    expect(&rt, rt.blank(), &mut store, &make_case(words, &lines, 9, parts))?;
+    expect(
+        &rt,
+        rt.blank(),
+        &mut store,
+        &make_case(words, &lines, 9, parts),
+    )?;
     assert!(rt; store.name(0).is_none(), "a refused load writes nothing");
     Ok(())
 }
@@ -239,7 +315,15 @@ fn loads_of_a_file(rt: HostRuntime) -> Result<(), Fail> {
     let below = &["ibis", "-d", "D", "-q", "where a < 5"];
     expect_asked(&rt, rt.blank(), &mut store, below, 0, "hits 1\n")?;
     let absent = &["ardea", "-d", "D", "-m", "a:int", "-t", "m.csv"];
-    expect_load(&rt, rt.blank(), &mut store, absent, "", 7, "error 7 missing m.csv\n")?;
+    expect_load(
+        &rt,
+        rt.blank(),
+        &mut store,
+        absent,
+        "",
+        7,
+        "error 7 missing m.csv\n",
+    )?;
     expect_file(&rt, &store, "n.csv", b"3\n\"\"\n5\n");
     Ok(())
 }
@@ -329,7 +413,15 @@ fn names_each_damaged_file(rt: HostRuntime) -> Result<(), Fail> {
         ),
     ] {
         let mut store = MemStore::make(rt.alloc(), &[], 0)?;
-        expect_load(&rt, rt.blank(), &mut store, LOAD, "1\n", 0, "loaded 1 rows\n")?;
+        expect_load(
+            &rt,
+            rt.blank(),
+            &mut store,
+            LOAD,
+            "1\n",
+            0,
+            "loaded 1 rows\n",
+        )?;
         keep(&rt, &mut store, file, bytes)?;
         expect_five(
             &rt,
@@ -353,7 +445,15 @@ fn each_put_of_a_load_fails_in_turn(rt: HostRuntime) -> Result<(), Fail> {
         (12, true, "hits 2\n"),
     ] {
         let mut store = MemStore::make(rt.alloc(), &[FailAt { call, keep_new }], 0)?;
-        expect_load(&rt, rt.blank(), &mut store, LOAD, "1\n", 0, "loaded 1 rows\n")?;
+        expect_load(
+            &rt,
+            rt.blank(),
+            &mut store,
+            LOAD,
+            "1\n",
+            0,
+            "loaded 1 rows\n",
+        )?;
         expect_load(&rt, rt.blank(), &mut store, LOAD, "2\n", 11, "")?;
         let below = &["ibis", "-d", "D", "-q", "where a < 9"];
         expect_asked(&rt, rt.blank(), &mut store, below, 0, hits)?;
@@ -370,7 +470,15 @@ fn a_failing_input_or_output_has_its_status(rt: HostRuntime) -> Result<(), Fail>
     };
     expect(&rt, rt.blank(), &mut store, &unread)?;
     assert!(rt; store.name(0).is_none());
-    expect_load(&rt, rt.blank(), &mut store, LOAD, "7\n", 0, "loaded 1 rows\n")?;
+    expect_load(
+        &rt,
+        rt.blank(),
+        &mut store,
+        LOAD,
+        "7\n",
+        0,
+        "loaded 1 rows\n",
+    )?;
     let unprinted = Case {
         sink_fails: &[0],
         ..make_case(&["ibis", "-d", "D", "-l"], b"", 12, "")
@@ -394,8 +502,24 @@ fn a_session_goes_on_behind_a_refusal(rt: HostRuntime) -> Result<(), Fail> {
     expect_load(&rt, rt.blank(), &mut store, &["session"], LINES, 0, REPLIES)?;
     expect_load(&rt, rt.blank(), &mut store, &["session"], "", 0, "")?;
     let quoted = "ibis -d 'D' -q 'where 'a' < 4'\n";
-    expect_load(&rt, rt.blank(), &mut store, &["session"], quoted, 0, "hits 1\n")?;
-    expect_load(&rt, rt.blank(), &mut store, &["session", "x"], "", 1, "error 1 usage\n")?;
+    expect_load(
+        &rt,
+        rt.blank(),
+        &mut store,
+        &["session"],
+        quoted,
+        0,
+        "hits 1\n",
+    )?;
+    expect_load(
+        &rt,
+        rt.blank(),
+        &mut store,
+        &["session", "x"],
+        "",
+        1,
+        "error 1 usage\n",
+    )?;
     Ok(())
 }
 
@@ -417,6 +541,11 @@ fn a_fault_ends_a_session(rt: HostRuntime) -> Result<(), Fail> {
     let mut bytes = Vec::new(rt.alloc());
     bytes.resize(16_777_217, b'#')?;
     let long = "error 9 limit session 16777217 over 16777216\n";
-    expect(&rt, rt.blank(), &mut store, &make_case(&["session"], &bytes, 9, long))?;
+    expect(
+        &rt,
+        rt.blank(),
+        &mut store,
+        &make_case(&["session"], &bytes, 9, long),
+    )?;
     Ok(())
 }

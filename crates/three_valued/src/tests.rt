@@ -133,37 +133,64 @@ fn gives<L: Ledger>(
 }
 
 #[test]
-fn tables_of_two_have_nine_pairs(rt: HostRuntime) -> Result<(), Fail> {
+fn and_of_nine_pairs(rt: HostRuntime) -> Result<(), Fail> {
     let alloc = rt.alloc();
-    let and = plan_of(alloc, Join::And, 2)?;
-    let or = plan_of(alloc, Join::Or, 2)?;
-    let xor = plan_of(alloc, Join::Xor, 2)?;
-    let both = [FIRST, SECOND];
+    let plan = plan_of(alloc, Join::And, 2)?;
     assert!(rt;
         gives::<Brand>(
             rt.blank(),
             alloc,
-            &and,
-            &both,
+            &plan,
+            &[FIRST, SECOND],
             (0b100_000_000, 0b001_000_101)
         )?
     );
+    Ok(())
+}
+
+#[test]
+fn or_of_nine_pairs(rt: HostRuntime) -> Result<(), Fail> {
+    let alloc = rt.alloc();
+    let plan = plan_of(alloc, Join::Or, 2)?;
     assert!(rt;
         gives::<Brand>(
             rt.blank(),
             alloc,
-            &or,
-            &both,
+            &plan,
+            &[FIRST, SECOND],
             (0b111_100_100, 0b000_001_011)
         )?
     );
+    Ok(())
+}
+
+#[test]
+fn xor_of_nine_pairs(rt: HostRuntime) -> Result<(), Fail> {
+    let alloc = rt.alloc();
+    let plan = plan_of(alloc, Join::Xor, 2)?;
     assert!(rt;
         gives::<Brand>(
             rt.blank(),
             alloc,
-            &xor,
-            &both,
+            &plan,
+            &[FIRST, SECOND],
             (0b010_100_000, 0b001_001_111)
+        )?
+    );
+    Ok(())
+}
+
+#[test]
+fn xor_of_three(rt: HostRuntime) -> Result<(), Fail> {
+    let alloc = rt.alloc();
+    let plan = plan_of(alloc, Join::Xor, 3)?;
+    assert!(rt;
+        gives::<Brand>(
+            rt.blank(),
+            alloc,
+            &plan,
+            &[FIRST, SECOND, SECOND],
+            (0b110_000_000, 0b001_001_111)
         )?
     );
     Ok(())
@@ -172,12 +199,12 @@ fn tables_of_two_have_nine_pairs(rt: HostRuntime) -> Result<(), Fail> {
 #[test]
 fn not_leaves_unknown(rt: HostRuntime) -> Result<(), Fail> {
     let alloc = rt.alloc();
-    let not = turned(alloc)?;
+    let plan = turned(alloc)?;
     assert!(rt;
         gives::<Brand>(
             rt.blank(),
             alloc,
-            &not,
+            &plan,
             &[FIRST],
             (0b000_111_000, 0b000_000_111)
         )?
@@ -186,29 +213,24 @@ fn not_leaves_unknown(rt: HostRuntime) -> Result<(), Fail> {
 }
 
 #[test]
-fn no_part_or_many(rt: HostRuntime) -> Result<(), Fail> {
+fn and_of_no_part_is_yes(rt: HostRuntime) -> Result<(), Fail> {
     let alloc = rt.alloc();
-    let none = plan_of(alloc, Join::And, 0)?;
-    let three = plan_of(alloc, Join::Xor, 3)?;
-    let thousand = plan_of(alloc, Join::Or, 1000)?;
+    let plan = plan_of(alloc, Join::And, 0)?;
+    assert!(rt; gives::<Brand>(rt.blank(), alloc, &plan, &[], (0b111_111_111, 0))?);
+    Ok(())
+}
+
+#[test]
+fn or_of_a_thousand(rt: HostRuntime) -> Result<(), Fail> {
+    let alloc = rt.alloc();
+    let plan = plan_of(alloc, Join::Or, 1000)?;
     let mut many = [FIRST; 1000];
     many[999] = SECOND;
-    assert!(rt; gives::<Brand>(rt.blank(), alloc, &none, &[], (0b111_111_111, 0))?);
-    let list = [FIRST, SECOND, SECOND];
     assert!(rt;
         gives::<Brand>(
             rt.blank(),
             alloc,
-            &three,
-            &list,
-            (0b110_000_000, 0b001_001_111)
-        )?
-    );
-    assert!(rt;
-        gives::<Brand>(
-            rt.blank(),
-            alloc,
-            &thousand,
+            &plan,
             &many,
             (0b111_100_100, 0b000_001_011)
         )?

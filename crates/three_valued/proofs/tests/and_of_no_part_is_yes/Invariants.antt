@@ -1,4 +1,4 @@
-use Rattle.three_valued.proofs.tests.tables_of_two_have_nine_pairs.Given as goal
+use Rattle.three_valued.proofs.tests.and_of_no_part_is_yes.Given as goal
 
 abbrev pub ghosts-gives : goal.ghosts-gives
 ghosts-gives g a = record { name = a.blank.name; parts = a.blank.parts }

@@ -1,4 +1,4 @@
-use Rattle.three_valued.proofs.tests.no_part_or_many.Given as goal
+use Rattle.three_valued.proofs.tests.or_of_a_thousand.Given as goal
 
 abbrev pub ghosts-gives : goal.ghosts-gives
 ghosts-gives g a = record { name = a.blank.name; parts = a.blank.parts }

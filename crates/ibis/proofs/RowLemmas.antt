@@ -1,8 +1,9 @@
 -- Numbers counted run by run, and block by block, are those of the cells.
 use Rattle.std.proofs.Common.{◌≡◌, ◌+◌, ◌-◌, ◌<◌, ◌≤◌, ℕ, zero, suc, ℤ, Bool, true, false, eqb, cond, List, [], ◌∷◌, ◌++◌, length, take, drop, map, Option, Some, None, IsSome, MatchOption, refl, sym, ap, subst, ◌∙◌, arith}
 use Rattle.std.specs.List.{All, filter, sum_by}
-use Rattle.std.proofs.Math.Seq.{take-add}
+use Rattle.std.proofs.Math.Seq.{take-add, take-append_seam}
 use Rattle.std.proofs.lemmas.Bool.{eqb-true}
+use Rattle.std.proofs.lemmas.List.{drop-take, take-take}
 use Rattle.std.proofs.lemmas.List.Elements.{All-head, All-tail}
 use Rattle.std.proofs.lemmas.List.Sums.{sum_by-append}
 use Rattle.fb_types.specs.declared.cells.Cell.{Cell}
@@ -11,12 +12,14 @@ use Rattle.fb_types.specs.declared.types.ColType.{ColType}
 use Rattle.fb_types.specs.Cells.{CellFits}
 use Rattle.fb_types.specs.Types.{ends_of}
 use Rattle.wah_iter.specs.Rows.{before, runs_from, runs_of}
+use Rattle.wah_iter.specs.Walks.{ComesRun}
 use Rattle.where_grammar.specs.declared.clause.Op.TheVariants.{Less}
 use Rattle.where_grammar.specs.Holds.{compares, number_passes}
 use Rattle.world.specs.PartFiles.{is_present, number_of}
 use Rattle.fb_outside.specs.Files.{Files}
 use Rattle.column_file.specs.declared.column.ColumnRef.{ColumnRef}
 use Rattle.ibis.specs.Rows.{HasCells, passing, smaller}
+use Rattle.ibis.specs.Runs.{Rise, from_run, in_runs, rows_of_runs}
 
 pub smaller-append : (limit : ℤ) (a b : List ℤ) → smaller limit (a ++ b) ≡ smaller limit a + smaller limit b
 smaller-append limit a b = sum_by-append (λ number. cond (compares Less number limit) 1 0) a b
@@ -66,42 +69,42 @@ next_block limit values first at n size later hits more less is same h given =
 
 -- ---- runs
 
--- each run has a row, and ends at most there
-abbrev pub Within : ℕ → List (ℕ × ℕ) → Type 0
-Within end [] = Unit {0}
-Within end (r ∷ rs) = (r.0 < r.1) × (r.1 ≤ end) × Within end rs
-
--- how many rows they have
-abbrev pub rows_of_runs : List (ℕ × ℕ) → ℕ
-rows_of_runs [] = 0
-rows_of_runs (r ∷ rs) = (r.1 - r.0) + rows_of_runs rs
-
--- how many of the numbers in these rows are less than the limit
-abbrev pub in_runs : ℤ → List ℤ → List (ℕ × ℕ) → ℕ
-in_runs limit values [] = 0
-in_runs limit values (r ∷ rs) = smaller limit (take (r.1 - r.0) (drop r.0 values)) + in_runs limit values rs
-
-within_by : (end place : ℕ) (r : ℕ × ℕ) (rs : List (ℕ × ℕ)) (t : Bool) → eqb (place + 1) r.0 ≡ t → place + 1 ≤ end
-    → Within end (r ∷ rs) → Within end (before place (place + 1) (r ∷ rs))
-within_by end place r rs true e less h =
+rise_by : (end place : ℕ) (r : ℕ × ℕ) (rs : List (ℕ × ℕ)) (t : Bool) → eqb (place + 1) r.0 ≡ t → place + 1 ≤ end
+    → Rise (place + 1) end (r ∷ rs) → Rise place end (before place (place + 1) (r ∷ rs))
+rise_by end place r rs true e less h =
     let at : place + 1 ≡ r.0 = eqb-true (place + 1) r.0 e in
-    let long : r.0 < r.1 = h.0 in
-    rw e (omega arith, h.1, h.2)
-within_by end place r rs false e less h = rw e (omega arith, less, h)
+    let long : r.0 < r.1 = h.1 in
+    rw e (omega arith, omega arith, h.2, h.3)
+rise_by end place r rs false e less h = rw e (omega arith, omega arith, less, h)
 
-within_one : (end place : ℕ) (rs : List (ℕ × ℕ)) → place + 1 ≤ end → Within end rs → Within end (before place (place + 1) rs)
-within_one end place [] less h = (omega arith, less, tt)
-within_one end place (r ∷ rs) less h = within_by end place r rs (eqb (place + 1) r.0) refl less h
+rise_one : (end place : ℕ) (rs : List (ℕ × ℕ)) → place + 1 ≤ end → Rise (place + 1) end rs → Rise place end (before place (place + 1) rs)
+rise_one end place [] less h = (omega arith, omega arith, less, tt)
+rise_one end place (r ∷ rs) less h = rise_by end place r rs (eqb (place + 1) r.0) refl less h
 
-within_from : (end place : ℕ) (v : List Bool) → place + length v ≡ end → Within end (runs_from place v [])
+-- they also rise from a row before
+pub rise_lower : (low first end : ℕ) (rs : List (ℕ × ℕ)) → low ≤ first → Rise first end rs → Rise low end rs
+rise_lower low first end [] less h = tt
+rise_lower low first end (r ∷ rs) less h = let begun : first ≤ r.0 = h.0 in (omega arith, h.1, h.2, h.3)
+
+rise_from : (end place : ℕ) (v : List Bool) → place + length v ≡ end → Rise place end (runs_from place v [])
 unfolding runs_from
-within_from end place [] e = tt
-within_from end place (true ∷ v) e =
-    within_one end place (runs_from (place + 1) v []) (omega arith) (within_from end (place + 1) v (omega arith))
-within_from end place (false ∷ v) e = within_from end (place + 1) v (omega arith)
+rise_from end place [] e = tt
+rise_from end place (true ∷ v) e =
+    rise_one end place (runs_from (place + 1) v []) (omega arith) (rise_from end (place + 1) v (omega arith))
+rise_from end place (false ∷ v) e =
+    rise_lower place (place + 1) end (runs_from (place + 1) v []) (omega arith) (rise_from end (place + 1) v (omega arith))
 
-pub runs_within : (v : List Bool) → Within (length v) (runs_of v)
-runs_within v = within_from (length v) 0 v (omega arith)
+-- from the first run on they rise
+pub rise_begun : (low end first past : ℕ) (rs : List (ℕ × ℕ)) → Rise low end ((first, past) ∷ rs) → Rise first end ((first, past) ∷ rs)
+rise_begun low end first past rs h = (omega arith, h.1, h.2, h.3)
+
+-- no more rows than there are
+pub rise_few : (first end : ℕ) (rs : List (ℕ × ℕ)) → Rise first end rs → rows_of_runs rs ≤ end - first
+rise_few first end [] h = omega arith
+rise_few first end (r ∷ rs) h = omega (arith, h.0, h.1, h.2, rise_few r.1 end rs h.3)
+
+pub runs_rise : (v : List Bool) → Rise 0 (length v) (runs_of v)
+runs_rise v = rise_from (length v) 0 v (omega arith)
 
 few_by : (place : ℕ) (r : ℕ × ℕ) (rs : List (ℕ × ℕ)) (t : Bool) → eqb (place + 1) r.0 ≡ t
     → rows_of_runs (before place (place + 1) (r ∷ rs)) ≤ 1 + rows_of_runs (r ∷ rs)
@@ -133,11 +136,11 @@ taken_first place last number values rest less e =
     ap (λ n. take n (drop place values)) size ∙ ap (take (suc (last - (place + 1)))) e
 
 in_runs_by : (limit : ℤ) (values rest : List ℤ) (number : ℤ) (end place : ℕ) (r : ℕ × ℕ) (rs : List (ℕ × ℕ)) (t : Bool) → eqb (place + 1) r.0 ≡ t
-    → drop place values ≡ number ∷ rest → drop (place + 1) values ≡ rest → Within end (r ∷ rs)
+    → drop place values ≡ number ∷ rest → drop (place + 1) values ≡ rest → Rise (place + 1) end (r ∷ rs)
     → in_runs limit values (before place (place + 1) (r ∷ rs)) ≡ one_smaller limit number + in_runs limit values (r ∷ rs)
 in_runs_by limit values rest number end place r rs true e now later h =
     let at : place + 1 ≡ r.0 = eqb-true (place + 1) r.0 e in
-    let long : r.0 < r.1 = h.0 in
+    let long : r.0 < r.1 = h.1 in
     let taken : take (r.1 - place) (drop place values) ≡ number ∷ take (r.1 - (place + 1)) rest =
     taken_first place r.1 number values rest (omega arith) now in
     let others : take (r.1 - (place + 1)) rest ≡ take (r.1 - r.0) (drop r.0 values) =
@@ -154,7 +157,7 @@ in_runs_by limit values rest number end place r rs false e now later h =
     rw e (omega (arith, count))
 
 in_runs_one : (limit : ℤ) (values rest : List ℤ) (number : ℤ) (end place : ℕ) (rs : List (ℕ × ℕ))
-    → drop place values ≡ number ∷ rest → drop (place + 1) values ≡ rest → Within end rs
+    → drop place values ≡ number ∷ rest → drop (place + 1) values ≡ rest → Rise (place + 1) end rs
     → in_runs limit values (before place (place + 1) rs) ≡ one_smaller limit number + in_runs limit values rs
 in_runs_one limit values rest number end place [] now later h =
     let taken : take (place + 1 - place) (drop place values) ≡ number ∷ take (place + 1 - (place + 1)) rest =
@@ -188,7 +191,7 @@ in_runs_from limit ty values place (Null ∷ cells) some fit e =
 in_runs_from limit ty values place (Whole number ∷ cells) some fit e =
     let later : drop (place + 1) values ≡ map number_of cells = drop_next place number values (map number_of cells) e in
     in_runs_one limit values (map number_of cells) number (place + 1 + length (map is_present cells)) place (runs_from (place + 1) (map is_present cells) []) e later
-    (within_from (place + 1 + length (map is_present cells)) (place + 1) (map is_present cells) refl)
+    (rise_from (place + 1 + length (map is_present cells)) (place + 1) (map is_present cells) refl)
     ∙ ap (λ k. one_smaller limit number + k)
     (in_runs_from limit ty values (place + 1) cells some (All-tail (λ cell. CellFits cell ty) (Whole number) cells fit) later)
     ∙ sym (passing-cons limit (Whole number) cells)
@@ -199,17 +202,50 @@ pub in_runs_of_cells : (limit : ℤ) (ty : ColType) (cells : List Cell) → IsSo
     → in_runs limit (map number_of cells) (runs_of (map is_present cells)) ≡ passing limit cells
 in_runs_of_cells limit ty cells some fit = in_runs_from limit ty (map number_of cells) 0 cells some fit refl
 
--- ---- before the first run
+-- ---- the first run, and what is left of the runs
 
-pub start_within : (v : List Bool) (runs : List (ℕ × ℕ)) (rows : ℕ) → runs ≡ runs_of v → length v ≡ rows → Within rows runs
-start_within v runs rows e size = rw (e, sym size) (runs_within v)
+-- the runs of a mask of so many rows rise
+pub start_rises : (v : List Bool) (runs rest : List (ℕ × ℕ)) (rows : ℕ) → runs ≡ runs_of v → length v ≡ rows → rest ≡ runs → Rise 0 rows rest
+start_rises v runs rest rows e size same = rw (same, e, sym size) (runs_rise v)
 
-pub start_few : (v : List Bool) (runs : List (ℕ × ℕ)) (rows : ℕ) → runs ≡ runs_of v → length v ≡ rows → 0 + rows_of_runs runs ≤ rows
-start_few v runs rows e size = omega (arith, ap rows_of_runs e, runs_few v, size)
+pub start_few : (v : List Bool) (runs rest : List (ℕ × ℕ)) (rows : ℕ) → runs ≡ runs_of v → length v ≡ rows → rest ≡ runs
+    → 0 + rows_of_runs rest ≤ rows
+start_few v runs rest rows e size same = omega (arith, ap rows_of_runs (same ∙ e), runs_few v, size)
 
-pub start_counts : (limit : ℤ) (files : Option Files) (column : ColumnRef) (runs : List (ℕ × ℕ)) (cells : List Cell) → runs ≡ runs_of column.mask
-    → IsSome (ends_of column.ty) → HasCells files column cells → 0 + in_runs limit (map number_of cells) runs ≡ passing limit cells
-start_counts limit files column runs cells e some has =
-    let all : in_runs limit (map number_of cells) runs ≡ passing limit cells =
-    ap (in_runs limit (map number_of cells)) (e ∙ ap (λ v. runs_of v) has.mask) ∙ in_runs_of_cells limit column.ty cells some has.fit in
+pub start_counts : (limit : ℤ) (files : Option Files) (column : ColumnRef) (runs rest : List (ℕ × ℕ)) (cells : List Cell) → runs ≡ runs_of column.mask
+    → rest ≡ runs → IsSome (ends_of column.ty) → HasCells files column cells → 0 + in_runs limit (map number_of cells) rest ≡ passing limit cells
+start_counts limit files column runs rest cells e same some has =
+    let all : in_runs limit (map number_of cells) rest ≡ passing limit cells =
+    ap (in_runs limit (map number_of cells)) (same ∙ e ∙ ap (λ v. runs_of v) has.mask) ∙ in_runs_of_cells limit column.ty cells some has.fit in
     omega (arith, all)
+
+-- the run that comes, and those behind it, are those that were left
+pub comes_left : (old new : List (ℕ × ℕ)) (run : Option (ℕ × ℕ)) → ComesRun old run new → from_run run new ≡ old
+comes_left old new None h = sym h.0
+comes_left old new (Some run) h = sym h
+
+pub taken_whole : (xs ys : List ℤ) (n : ℕ) → length xs ≡ n → take n (xs ++ ys) ≡ xs
+taken_whole xs ys n e = ap (λ k. take k (xs ++ ys)) (sym e) ∙ take-append_seam xs ys
+
+-- the numbers of a run's rows, in a block
+pub piece_in_block : (limit : ℤ) (block values : List ℤ) (first from past size : ℕ) → block ≡ take size (drop first values) → first ≤ from → from ≤ past
+    → past ≤ first + size → smaller limit (take (past - first - (from - first)) (drop (from - first) block)) ≡ smaller limit (take (past - from) (drop from values))
+piece_in_block limit block values first from past size e a b c =
+    let place : first + (from - first) ≡ from = omega arith in
+    let count : past - first - (from - first) ≡ past - from = omega arith in
+    let fits : past - from ≤ size - (from - first) = omega arith in
+    let sum : size ≡ from - first + (size - (from - first)) = omega arith in
+    let dropped : drop (from - first) block ≡ take (size - (from - first)) (drop from values) =
+    ap (drop (from - first)) (e ∙ ap (λ n. take n (drop first values)) sum) ∙ drop-take (from - first) (size - (from - first)) (drop first values)
+    ∙ ap (take (size - (from - first))) (drop_again (from - first) first values ∙ ap (λ k. drop k values) place) in
+    ap (smaller limit) (ap (λ n. take n (drop (from - first) block)) count ∙ ap (take (past - from)) dropped
+    ∙ take-take (past - from) (size - (from - first)) (drop from values) fits)
+
+-- a run cut in two
+pub run_in_two : (limit : ℤ) (values : List ℤ) (from end past : ℕ) (rs : List (ℕ × ℕ)) → from ≤ end → end ≤ past
+    → smaller limit (take (end - from) (drop from values)) + in_runs limit values ((end, past) ∷ rs) ≡ in_runs limit values ((from, past) ∷ rs)
+run_in_two limit values from end past rs a b =
+    let whole : smaller limit (take (end - from) (drop from values)) + smaller limit (take (past - end) (drop end values))
+    ≡ smaller limit (take (past - from) (drop from values)) =
+    next_block limit values from end (past - end) (past - end) past _ _ a (omega arith) refl refl refl in
+    omega (arith, whole)

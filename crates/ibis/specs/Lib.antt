@@ -3,3 +3,4 @@ pub mod Count
 pub mod Listing
 pub mod Steps
 pub mod Rows
+pub mod Runs

@@ -1,0 +1,35 @@
+-- The index of a column: its bins by the keys that the binning says, their bitmaps, and the bytes of its file.
+use Rattle.std.specs.Prelude.{◌≡◌, ℕ, ℤ, Bool, List, Option, Some, length, map}
+use Rattle.fb_outside.specs.Files.{Files, told_at}
+use Rattle.column_file.specs.declared.column.ColumnRef.{ColumnRef}
+use Rattle.column_file.specs.Values.{ValueFits, values_bytes}
+use Rattle.std.specs.List.{All}
+use Rattle.index_spec.specs.declared.spec.Spec.{Spec}
+use Rattle.index_file.specs.declared.edge.Edge.{Edge}
+use Rattle.index_file.specs.IndexFile.{index_bytes}
+use Rattle.binning.specs.Bins.{bins_of, cells, present}
+use Rattle.binning.specs.Encodings.{vectors}
+use Rattle.binning.specs.Keys.{keying_of}
+use Rattle.binning.specs.Members.{bitmaps_of}
+use Rattle.binning.specs.declared.gathering.Bin.{Bin}
+
+-- the bins of the numbers of the rows that have one
+abbrev pub bins_by : Spec → List Bool → List ℤ → List Bin
+bins_by spec mask numbers = bins_of (keying_of spec.binning (present (cells mask numbers))) (cells mask numbers)
+
+abbrev pub edge_of : Bin → Edge
+edge_of bin = record { least = bin.least; greatest = bin.greatest }
+
+abbrev pub bitmaps_by : Spec → List Bool → List ℤ → List (List Bool)
+bitmaps_by spec mask numbers = bitmaps_of spec.encoding (length mask) (vectors (bins_by spec mask numbers))
+
+-- the file of a column with these rows and numbers
+unfoldable pub index_of : Spec → List Bool → List ℤ → List ℕ
+index_of spec mask numbers =
+    index_bytes (length mask) spec (map edge_of (bins_by spec mask numbers)) (bitmaps_by spec mask numbers)
+
+-- the values file of a column has these numbers, one a row
+pub record HasNumbers (files : Option Files) (column : ColumnRef) (numbers : List ℤ) : Type 0 where
+  pub told : told_at files column.name ≡ Some (values_bytes column.ty numbers)
+  pub fit : All (λ number. ValueFits number column.ty) numbers
+  pub rows : length numbers ≡ column.rows

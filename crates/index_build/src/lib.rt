@@ -1,0 +1,5 @@
+//! Indexes made of columns.
+#![tactic(auto)]
+
+mod gathering;
+mod reading;

@@ -1,5 +1,5 @@
 -- The index of a column: its bins by the keys that the binning says, their bitmaps, and the bytes of its file.
-use Rattle.std.specs.Prelude.{◌≡◌, ℕ, ℤ, Bool, List, Option, Some, length, map}
+use Rattle.std.specs.Prelude.{◌≡◌, ℕ, ℤ, Bool, List, Option, Some, length, map, take}
 use Rattle.fb_outside.specs.Files.{Files, told_at}
 use Rattle.column_file.specs.declared.column.ColumnRef.{ColumnRef}
 use Rattle.column_file.specs.Values.{ValueFits, values_bytes}
@@ -12,6 +12,7 @@ use Rattle.binning.specs.Encodings.{vectors}
 use Rattle.binning.specs.Keys.{keying_of}
 use Rattle.binning.specs.Members.{bitmaps_of}
 use Rattle.binning.specs.declared.gathering.Bin.{Bin}
+use Rattle.binning.specs.declared.rules.Keying.{Keying}
 
 -- the bins of the numbers of the rows that have one
 abbrev pub bins_by : Spec → List Bool → List ℤ → List Bin
@@ -28,8 +29,26 @@ unfoldable pub index_of : Spec → List Bool → List ℤ → List ℕ
 index_of spec mask numbers =
     index_bytes (length mask) spec (map edge_of (bins_by spec mask numbers)) (bitmaps_by spec mask numbers)
 
+-- ---- what is read of a column
+
 -- the values file of a column has these numbers, one a row
 pub record HasNumbers (files : Option Files) (column : ColumnRef) (numbers : List ℤ) : Type 0 where
   pub told : told_at files column.name ≡ Some (values_bytes column.ty numbers)
   pub fit : All (λ number. ValueFits number column.ty) numbers
   pub rows : length numbers ≡ column.rows
+
+-- so many rows from the first on have these numbers, which are those of the file where it is told
+pub record AreRead (files : Option Files) (column : ColumnRef) (count : ℕ) (numbers : List ℤ) : Type 0 where
+  pub number : length numbers ≡ count
+  pub fit : All (λ number. ValueFits number column.ty) numbers
+  pub told : (all : List ℤ) → HasNumbers files column all → numbers ≡ take count all
+
+-- the bins of what is read, by the keys that it has
+pub record AreBinsOf (files : Option Files) (column : ColumnRef) (keys : List ℤ → Keying) (bins : List Bin) : Type 0 where
+  pub numbers : List ℤ
+  pub read : AreRead files column column.rows numbers
+  pub are : bins ≡ bins_of (keys numbers) (cells column.mask numbers)
+
+-- the keys that a specification says over a column
+abbrev pub keys_by : Spec → List Bool → List ℤ → Keying
+keys_by spec mask numbers = keying_of spec.binning (present (cells mask numbers))

@@ -8,8 +8,7 @@ ghost use Rattle.fb_types.specs.Types.{width_of};
 ghost use Rattle.column_file.specs.Values.{ValueFits, width_in};
 ghost use Rattle.index_spec.specs.Language.{IsGivenBinning};
 ghost use Rattle.part_meta.specs.PartText.{most_rows};
-ghost use Rattle.binning.specs.Bins.{bins_of, cells};
-ghost use Rattle.index_build.specs.Index.{HasNumbers, bins_by};
+ghost use Rattle.index_build.specs.Index.{AreBinsOf, AreRead, keys_by};
 
 use crate::reading::{ReadFault, block_rows, read_block};
 use binning::{Bin, Gatherer, Rule, bins, make_rule};
@@ -36,8 +35,7 @@ pub(crate) fn column_bins<S: Store, L: Ledger>(
     ensures cause { HasCause (S.faults store.old) (S.faults store.new) (IsErrOf result ReadFault.Store) }
     ensures files { SameFiles (S.files store.old) (S.files store.new) }
     ensures reads { AddsOnly (λ look. look.name ≡ column.now.name) (S.reads store.old) (S.reads store.new) }
-    ensures bins { (numbers : List ℤ) → HasNumbers (S.files store.old) column.now numbers
-        → IfOk result (λ bins. bins.items ≡ bins_by spec.now column.now.mask numbers) }
+    ensures bins { IfOk result (λ found. AreBinsOf (S.files store.old) column.now (keys_by spec.now column.now.mask) found.items) }
 {
     match &spec.binning {
         Binning::Weight { .. } => {
@@ -63,9 +61,7 @@ fn all_numbers<S: Store>(
     ensures cause { HasCause (S.faults store.old) (S.faults store.new) (IsErrOf result ReadFault.Store) }
     ensures files { SameFiles (S.files store.old) (S.files store.new) }
     ensures reads { AddsOnly (λ look. look.name ≡ column.now.name) (S.reads store.old) (S.reads store.new) }
-    ensures rows { IfOk result (λ all. length all.items ≡ column.now.rows) }
-    ensures fit { IfOk result (λ all. All (λ number. ValueFits number column.now.ty) all.items) }
-    ensures numbers { (numbers : List ℤ) → HasNumbers (S.files store.old) column.now numbers → IfOk result (λ all. all.items ≡ numbers) }
+    ensures numbers { IfOk result (λ all. AreRead (S.files store.old) column.now column.now.rows all.items) }
 {
     let mut all = Vec::with_capacity(alloc, column.rows as usize)?;
     let mut block = [0; MAX_ROWS_READ];
@@ -93,8 +89,7 @@ fn gathered<S: Store, L: Ledger>(
     ensures cause { HasCause (S.faults store.old) (S.faults store.new) (IsErrOf result ReadFault.Store) }
     ensures files { SameFiles (S.files store.old) (S.files store.new) }
     ensures reads { AddsOnly (λ look. look.name ≡ column.now.name) (S.reads store.old) (S.reads store.new) }
-    ensures bins { (numbers : List ℤ) → HasNumbers (S.files store.old) column.now numbers
-        → IfOk result (λ found. found.items ≡ bins_of rule (cells column.now.mask numbers)) }
+    ensures bins { IfOk result (λ found. AreBinsOf (S.files store.old) column.now (λ numbers. rule) found.items) }
 {
     let mut gatherer = Gatherer::make(alloc, rule);
     let mut block = [0; MAX_ROWS_READ];

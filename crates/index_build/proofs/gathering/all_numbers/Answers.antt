@@ -1,12 +1,12 @@
-use Rattle.std.proofs.Common.{◌≡◌, ◌+◌, ℤ, ◌++◌, List, Option, length, take, drop, ap, sym, subst, ◌∙◌, arith}
+use Rattle.std.proofs.Common.{◌≡◌, ◌+◌, ℤ, ◌++◌, List, Option, length, take, drop, refl, ap, sym, subst, ◌∙◌, arith}
 use Rattle.std.proofs.Math.Seq.{take-add}
 use Rattle.std.proofs.lemmas.List.{length-append, length-drop, length-take}
 use Rattle.std.specs.List.{All}
 use Rattle.fb_outside.specs.Files.{Files}
 use Rattle.column_file.specs.Values.{ValueFits}
-use Rattle.fb_outside.proofs.ReadLemmas.{AddsOnly-trans}
-use Rattle.index_build.specs.Index.{HasNumbers}
-use Rattle.index_build.proofs.ReadingLemmas.{all_fit, taken_whole}
+use Rattle.fb_outside.proofs.ReadLemmas.{AddsOnly-same, AddsOnly-trans}
+use Rattle.index_build.specs.Index.{AreRead}
+use Rattle.index_build.proofs.ReadingLemmas.{more_read, none_read, taken_whole}
 use Rattle.index_build.proofs.gathering.all_numbers.Goals as goal
 
 pub returns-in_err-read_block-clause-reads : goal.returns-in_err-read_block-clause-reads
@@ -30,12 +30,18 @@ loop-at-preserved g c =
       reads = AddsOnly-trans _ _ _ _ c.loop-at.invariant.reads c.read_block.ensures.reads;
       room = omega (arith, length-append {A = ℤ}, length-drop {A = ℤ}, read, c.loop-at.invariant.room, c.block_rows-rows.ensures.few);
       within = omega (arith, c.block_rows-rows.ensures.within, c.loop-at-test.true);
-      rows = ap length grown ∙ length-append all block ∙ omega (arith, read, c.loop-at.invariant.rows);
-      fit = subst (λ (vs : List ℤ). All (λ v. ValueFits v c.args.column.now.ty) vs) (sym grown)
-          (all_fit c.args.column.now.ty all block c.loop-at.invariant.fit c.in_ok-read_block.ensures.fit);
-      numbers = λ numbers has.
-          let now = subst (λ (files : Option Files). HasNumbers files c.args.column.now numbers) (sym c.loop-at.invariant.kept) has in
-          let next : block ≡ take n (drop c.loop-at.at numbers) =
-              c.in_ok-read_block.ensures.numbers numbers now ∙ ap (λ k. take k (drop c.loop-at.at numbers)) size in
-          grown ∙ ap (λ xs. xs ++ block) (c.loop-at.invariant.numbers numbers has) ∙ ap (λ xs. take c.loop-at.at numbers ++ xs) next ∙ sym (take-add c.loop-at.at n numbers);
+      numbers = subst (λ (xs : List ℤ). AreRead (g.S.Store.files c.args.store.now) c.args.column.now (c.loop-at.at + n) xs) (sym grown)
+          (more_read _ _ c.args.column.now c.loop-at.at n all block c.loop-at.invariant.kept c.loop-at.invariant.numbers read c.in_ok-read_block.ensures.fit
+          (λ values has. c.in_ok-read_block.ensures.numbers values has ∙ ap (λ k. take k (drop c.loop-at.at values)) size));
+    }
+
+pub loop-at-init : goal.loop-at-init
+loop-at-init g c =
+    record {
+      unfailed = refl;
+      kept = refl;
+      reads = AddsOnly-same _ _ _ refl;
+      room = refl;
+      within = omega arith;
+      numbers = rw c.in_ok-all.ensures.items (none_read (g.S.Store.files c.args.store.now) c.args.column.now);
     }

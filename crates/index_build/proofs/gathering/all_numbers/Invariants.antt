@@ -1,9 +1,7 @@
 use Rattle.std.proofs.Common.{◌≡◌, ◌-◌, ◌≤◌, ℤ, List, length, take}
-use Rattle.std.specs.List.{All}
 use Rattle.fb_outside.specs.Files.{SameFiles}
 use Rattle.fb_outside.specs.Reads.{AddsOnly}
-use Rattle.column_file.specs.Values.{ValueFits}
-use Rattle.index_build.specs.Index.{HasNumbers}
+use Rattle.index_build.specs.Index.{AreRead}
 use Rattle.index_build.proofs.gathering.all_numbers.Given as goal
 
 abbrev pub invariant-loop-at : goal.invariant-loop-at
@@ -13,9 +11,7 @@ invariant-loop-at g l = record {
   reads : AddsOnly (λ look. look.name ≡ l.column.name) (g.S.Store.reads l.fn.store) (g.S.Store.reads l.store);
   room : length l.block ≡ 4096;
   within : l.at ≤ l.column.rows;
-  rows : length l.all.items ≡ l.at;
-  fit : All (λ number. ValueFits number l.column.ty) l.all.items;
-  numbers : (numbers : List ℤ) → HasNumbers (g.S.Store.files l.fn.store) l.column numbers → l.all.items ≡ take l.at numbers;
+  numbers : AreRead (g.S.Store.files l.fn.store) l.column l.at l.all.items;
 }
 
 abbrev pub decreases-loop-at : goal.decreases-loop-at

@@ -3,7 +3,7 @@ use Rattle.fb_outside.specs.Files.{SameFiles}
 use Rattle.fb_outside.specs.Reads.{AddsOnly}
 use Rattle.binning.specs.Bins.{cells}
 use Rattle.binning.specs.Gathered.{Gathered}
-use Rattle.index_build.specs.Index.{HasNumbers}
+use Rattle.index_build.specs.Index.{AreRead}
 use Rattle.index_build.proofs.gathering.gathered.Given as goal
 
 abbrev pub invariant-loop-at : goal.invariant-loop-at
@@ -15,8 +15,9 @@ invariant-loop-at g l = record {
   within : l.at ≤ l.column.rows;
   rule : l.gatherer.rule ≡ l.fn.rule;
   rows : length l.gatherer.places ≡ l.at;
-  cells : (numbers : List ℤ) → HasNumbers (g.S.Store.files l.fn.store) l.column numbers
-      → Gathered l.gatherer (cells (take l.at l.column.mask) (take l.at numbers));
+  numbers : List ℤ;
+  read : AreRead (g.S.Store.files l.fn.store) l.column l.at numbers;
+  gathers : Gathered l.gatherer (cells (take l.at l.column.mask) numbers);
 }
 
 abbrev pub decreases-loop-at : goal.decreases-loop-at

@@ -1,18 +1,22 @@
 -- The index of a column: its bins by the keys that the binning says, their bitmaps, and the bytes of its file.
-use Rattle.std.specs.Prelude.{◌≡◌, ℕ, ℤ, Bool, List, Option, Some, length, map, take}
+use Rattle.std.specs.Prelude.{◌≡◌, ℕ, ℤ, Bool, List, ⊤, Option, Some, None, IsSome, length, map, take}
 use Rattle.fb_outside.specs.Files.{Files, told_at}
 use Rattle.column_file.specs.declared.column.ColumnRef.{ColumnRef}
 use Rattle.column_file.specs.Values.{ValueFits, values_bytes}
 use Rattle.std.specs.List.{All}
+use Rattle.index_spec.specs.Counts.{bitmap_count}
+use Rattle.index_spec.specs.declared.spec.EncodingSpec.{EncodingSpec}
 use Rattle.index_spec.specs.declared.spec.Spec.{Spec}
 use Rattle.index_file.specs.declared.edge.Edge.{Edge}
 use Rattle.index_file.specs.IndexFile.{index_bytes}
 use Rattle.binning.specs.Bins.{bins_of, cells, present}
-use Rattle.binning.specs.Encodings.{vectors}
-use Rattle.binning.specs.Keys.{keying_of}
+use Rattle.binning.specs.Encodings.{nested_bins, vectors}
+use Rattle.binning.specs.Keys.{IsKeying, keying_of}
 use Rattle.binning.specs.Members.{bitmaps_of}
 use Rattle.binning.specs.declared.gathering.Bin.{Bin}
 use Rattle.binning.specs.declared.rules.Keying.{Keying}
+use Rattle.index_build.specs.declared.fault.BuildFault.{BuildFault}
+use Rattle.index_build.specs.declared.fault.BuildFault.TheVariants.{Damaged, TooManyBins, Store, OutOfMemory}
 
 -- the bins of the numbers of the rows that have one
 abbrev pub bins_by : Spec → List Bool → List ℤ → List Bin
@@ -52,3 +56,20 @@ pub record AreBinsOf (files : Option Files) (column : ColumnRef) (keys : List �
 -- the keys that a specification says over a column
 abbrev pub keys_by : Spec → List Bool → List ℤ → Keying
 keys_by spec mask numbers = keying_of spec.binning (present (cells mask numbers))
+
+-- ---- what is written
+
+-- the bins of a column of so many rows, by some keys
+pub record AreOfColumn (rows : ℕ) (bins : List Bin) : Type 0 where
+  pub keys : Keying
+  pub column : List (Option ℤ)
+  pub kept : IsKeying keys
+  pub long : length column ≡ rows
+  pub are : bins ≡ bins_of keys column
+
+-- why n bins aren't written: too many are told exactly where the encoding has no bitmaps of so many
+abbrev pub Tells : EncodingSpec → ℕ → BuildFault → Type 0
+Tells encoding n (TooManyBins bins limit) = (bitmap_count encoding n ≡ None) × (bins ≡ nested_bins encoding n) × (limit ≡ 1024)
+Tells encoding n Store = IsSome (bitmap_count encoding n)
+Tells encoding n OutOfMemory = ⊤
+Tells encoding n (Damaged file kind want have) = ⊥

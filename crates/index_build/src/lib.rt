@@ -1,5 +1,10 @@
 //! Indexes made of columns.
 #![tactic(auto)]
 
+mod fault;
 mod gathering;
 mod reading;
+mod writing;
+
+pub use fault::BuildFault;
+pub use writing::Built;

@@ -1,0 +1,76 @@
+//! The index of a column of a part, built.
+
+ghost use Rattle.std.specs.Prelude.{◌≡◌, ◌≢◌, ◌<◌, ◌≤◌, ℕ, List, Some, IfErr, IfSome, IsErrOf, IsSome, OnOk, length, map, slice_get};
+ghost use Rattle.fb_outside.specs.Causes.{HasCause};
+ghost use Rattle.fb_outside.specs.Files.{ChangesOnly, Files, PutLeaves, Puts, SameFiles};
+ghost use Rattle.fb_outside.specs.Names.{IsPath};
+ghost use Rattle.fb_outside.specs.Reads.{AddsOnly};
+ghost use Rattle.fb_types.specs.declared.cells.Cell.{Cell};
+ghost use Rattle.fb_types.specs.Types.{width_of};
+ghost use Rattle.index_spec.specs.Language.{IsGiven};
+ghost use Rattle.part_meta.specs.FileNames.{index_name};
+ghost use Rattle.part_meta.specs.PartText.{most_rows};
+ghost use Rattle.world.specs.PartFiles.{is_present};
+ghost use Rattle.dataset.specs.InWorld.{HasNumbers, stored_numbers};
+ghost use Rattle.index_build.specs.Build.{IsColumnLook, StopsIn};
+ghost use Rattle.index_build.specs.Index.{index_of};
+
+use crate::fault::BuildFault;
+use crate::gathering::column_bins;
+use crate::reading::ReadFault;
+use crate::writing::{Built, write_bins};
+use column_file::ColumnRef;
+use dataset::{DamageKind, Dataset, PartFault, open_part_column};
+use fb_outside::{FileName, Store};
+use fb_types::Column;
+use index_spec::Spec;
+use part_meta::{FileKind, PartMeta, file_of};
+use std::alloc::Global;
+use std::sync::ledger::Ledger;
+use steps::Steps;
+
+/// Builds the index of a column of a part by a specification, in place of one that is there: reads the column by blocks
+/// of at most 4,096 rows, and puts the index file as its last call. A category's numbers are the codes of its words.
+pub fn build<S: Store, L: Ledger>(
+    alloc: Global,
+    store: &mut S,
+    dataset: &Dataset,
+    part: &PartMeta,
+    column: &Column,
+    spec: &Spec,
+    steps: &mut Steps<L>,
+) -> Result<Built, BuildFault>
+    requires path { IsPath dataset.now.dir }
+    requires number { part.now.number < 4096 }
+    requires rows { part.now.rows ≤ most_rows }
+    requires listed { (place : ℕ) × (slice_get dataset.now.parts place ≡ Some part.now) }
+    requires in_schema { (col : ℕ) × (slice_get dataset.now.schema col ≡ Some column.now) }
+    requires width { IsSome (width_of column.now.ty) }
+    requires given { IsGiven spec.now }
+    ensures cause { HasCause (S.faults store.old) (S.faults store.new) (IsErrOf result BuildFault.Store) }
+
+    // Where the files of the column have some cells, the index file is that of these by the specification.
+    ensures built { (m : Files) (cells : List Cell) → S.files store.old ≡ Some m → length cells ≡ part.now.rows
+        → HasNumbers m dataset.now.dir part.now.number column.now cells
+        → OnOk result (Puts (S.files store.old) (S.files store.new) (index_name dataset.now.dir part.now.number column.now.name)
+        (index_of spec.now (map is_present cells) (stored_numbers column.now.ty cells))) }
+
+    // Over every store only that file changes, and none where the index isn't built.
+    ensures kept { ChangesOnly (index_name dataset.now.dir part.now.number column.now.name) (S.files store.old) (S.files store.new) }
+    ensures refused { IfErr result (λ fault. fault ≢ BuildFault.Store → SameFiles (S.files store.old) (S.files store.new)) }
+    ensures stop { IfErr result (StopsIn (S.files store.old) dataset.now column.now.name) }
+    ensures reads { AddsOnly (IsColumnLook dataset.now.dir column.now.name) (S.reads store.old) (S.reads store.new) }
+{
+    let found = match open_part_column(alloc, store, dataset, part, column) {
+        Ok(found) => found,
+        Err(fault) => return Err(fault_of_part(fault)),
+    };
+    let name = file_of(
+        alloc,
+        &dataset.dir,
+        part.number,
+        Some(&column.name),
+        FileKind::Index,
+    )?;
+    build_column(alloc, store, &name, &found, spec, steps)
+}

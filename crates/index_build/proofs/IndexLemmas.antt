@@ -1,11 +1,12 @@
 -- What is built of the bins of a column is an index.
-use Rattle.std.proofs.Common.{◌≡◌, ◌+◌, ◌-◌, ◌*◌, ◌<◌, ◌≤◌, ◌^◌, ℕ, zero, suc, ℤ, Bool, true, false, cond, List, [], ◌∷◌, ◌++◌, Option, Some, None, IsSome, length, map, min, nat_lt, nat_eq, unwrap_or, option_map, int_lt, refl, sym, ap, subst, ◌∙◌, arith}
+use Rattle.std.proofs.Common.{◌≡◌, ◌+◌, ◌-◌, ◌*◌, ◌<◌, ◌≤◌, ◌^◌, ℕ, zero, suc, ℤ, Bool, true, false, cond, List, [], ◌∷◌, ◌++◌, Option, Some, None, IsSome, length, map, min, nat_lt, nat_eq, unwrap_or, option_map, int_lt, ◌<ℤ◌, refl, sym, ap, subst, ◌∙◌, arith}
 use Rattle.std.specs.Int.{div_ceil}
 use Rattle.std.specs.List.{All, AllByRecursion, filter_map, range_with_len}
 use Rattle.std.proofs.lemmas.Grind.{div_ceil_times}
 use Rattle.std.proofs.lemmas.List.{length-map}
 use Rattle.std.proofs.lemmas.List.FromFn.{length-range_with_len}
 use Rattle.std.proofs.lemmas.List.Elements.{All-from_recursion}
+use Rattle.binning.proofs.BinOrderLemmas.{bins_rise}
 use Rattle.binning.proofs.ColumnLemmas.{bins_apart}
 use Rattle.binning.proofs.MembersLemmas.{length-union_of}
 use Rattle.index_spec.specs.Counts.{HasGroups, bitmap_count, coarse_count, groups_of}
@@ -17,12 +18,14 @@ use Rattle.index_spec.specs.Language.{HasGroups-given, IsGiven}
 use Rattle.index_spec.specs.declared.spec.Spec.{Spec}
 use Rattle.index_spec.specs.Members.{from_to, member}
 use Rattle.index_file.specs.IndexFile.{IsIndex}
-use Rattle.index_file.specs.Order.{first_out_of_order}
+use Rattle.index_file.specs.Order.{AreAbove, AreInOrder, first_out_of_order}
+use Rattle.index_file.proofs.OrderLemmas.{of_order}
 use Rattle.index_file.specs.declared.edge.Edge.{Edge}
 use Rattle.wah_words.specs.Limits.{most_bits}
 use Rattle.binning.specs.Bins.{bin_of, bins_of, cells, has_key, present}
 use Rattle.binning.specs.Keys.{key, put, rising}
 use Rattle.binning.specs.Encodings.{vectors}
+use Rattle.binning.specs.Order.{BinsRise}
 use Rattle.binning.specs.Members.{AreBins, bitmap, bitmaps_of}
 use Rattle.binning.specs.declared.gathering.Bin.{Bin}
 use Rattle.binning.specs.declared.rules.Keying.{Keying}
@@ -123,6 +126,15 @@ each_long : (keys : Keying) (column : List (Option ℤ)) (ks : List ℤ) → All
 each_long keys column [] = tt
 each_long keys column (k ∷ ks) = (length-map column (has_key keys k), each_long keys column ks)
 
+above : (before : ℤ) (b : Bin) (bins : List Bin) → before <ℤ b.least → BinsRise (b ∷ bins) → AreAbove before (map edge_of (b ∷ bins))
+above before b [] less h = (less, h, tt)
+above before b (c ∷ bins) less h = (less, h.0, above b.greatest c bins h.1 h.2)
+
+in_order : (bins : List Bin) → BinsRise bins → AreInOrder (map edge_of bins)
+in_order [] h = tt
+in_order (b ∷ []) h = (h, tt)
+in_order (b ∷ c ∷ bins) h = (h.0, above b.greatest c bins h.1 h.2)
+
 moved : (P : ℕ → List Bin → Type 0) (m n : ℕ) (xs ys : List Bin) → m ≡ n → xs ≡ ys → P m xs → P n ys
 moved P m n xs ys e h p = subst (λ (k : ℕ). P k ys) e (subst (λ (zs : List Bin). P m zs) h p)
 
@@ -141,7 +153,7 @@ module _ (rows : ℕ) (bins : List Bin) (of : AreOfColumn rows bins) where
       moved (λ n bs. AreBins n (vectors bs)) (length of.column) rows (bins_of of.keys of.column) bins of.long (sym of.are) (bins_apart of.keys of.column)
 
   ordered : first_out_of_order (map edge_of bins) ≡ None
-  ordered = ?
+  ordered = rw of.are (of_order (map edge_of (bins_of of.keys of.column)) (in_order (bins_of of.keys of.column) (bins_rise of.keys of.column of.kept)))
 
   -- the bins and their bitmaps are an index
   pub of_column_index : (spec : Spec) (edges : List Edge) (bitmaps : List (List Bool)) → IsGiven spec → rows ≤ most_bits

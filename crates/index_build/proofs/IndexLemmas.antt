@@ -54,8 +54,13 @@ length-present (Some v ∷ column) = omega (arith, length-present column)
 
 pub few_bins : (keys : Keying) (column : List (Option ℤ)) → length (bins_of keys column) ≤ length column
 few_bins keys column =
-    omega (arith, length-map (rising (map (key keys) (present column))) (bin_of keys column), length-rising (map (key keys) (present column)),
-        length-map (present column) (key keys), length-present column)
+    omega (
+      arith,
+      length-map (rising (map (key keys) (present column))) (bin_of keys column),
+      length-rising (map (key keys) (present column)),
+      length-map (present column) (key keys),
+      length-present column,
+    )
 
 -- ---- their bitmaps
 
@@ -66,7 +71,7 @@ pub bitmaps_counted : (e : EncodingSpec) (rows : ℕ) (bins : List (List Bool)) 
     → bitmap_count e (length bins) ≡ Some (length (bitmaps_of e rows bins))
 bitmaps_counted e rows bins some =
     by (bitmap_count e (length bins)) some (length-map (from_to 0 (unwrap_or (bitmap_count e (length bins)) 0)) (bitmap e rows bins)
-        ∙ length-from_to (unwrap_or (bitmap_count e (length bins)) 0))
+    ∙ length-from_to (unwrap_or (bitmap_count e (length bins)) 0))
   where
     by : (count : Option ℕ) → IsSome count → length (bitmaps_of e rows bins) ≡ unwrap_or count 0 → count ≡ Some (length (bitmaps_of e rows bins))
     by None some is = let bad : false ≡ true = some in absurd (cc)

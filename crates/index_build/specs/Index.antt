@@ -17,6 +17,9 @@ use Rattle.binning.specs.declared.gathering.Bin.{Bin}
 use Rattle.binning.specs.declared.rules.Keying.{Keying}
 use Rattle.index_build.specs.declared.fault.BuildFault.{BuildFault}
 use Rattle.index_build.specs.declared.fault.BuildFault.TheVariants.{Damaged, TooManyBins, Store, OutOfMemory}
+use Rattle.index_build.specs.declared.reading.ReadFault.{ReadFault}
+use Rattle.index_build.specs.declared.reading.ReadFault.TheVariants.{Short}
+use Rattle.index_build.specs.declared.reading.ReadFault.TheVariants as reading
 
 -- the bins of the numbers of the rows that have one
 abbrev pub bins_by : Spec → List Bool → List ℤ → List Bin
@@ -73,3 +76,11 @@ Tells encoding n (TooManyBins bins limit) = (bitmap_count encoding n ≡ None) �
 Tells encoding n Store = IsSome (bitmap_count encoding n)
 Tells encoding n OutOfMemory = ⊤
 Tells encoding n (Damaged file kind want have) = ⊥
+
+-- ---- what ends the reading of a column
+
+-- a fault that may come over a file of the right length
+abbrev pub IsOfOutside : ReadFault → Type 0
+IsOfOutside (Short want have) = ⊥
+IsOfOutside reading.Store = ⊤
+IsOfOutside reading.OutOfMemory = ⊤

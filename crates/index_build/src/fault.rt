@@ -18,7 +18,10 @@ pub enum BuildFault {
     },
     /// So many bins, or groups of bins, are more than the encoding takes.
     #[error("{bins} bins, over {limit}")]
-    TooManyBins { bins: u32, limit: u32 },
+    TooManyBins {
+        bins: u32,
+        limit: u32,
+    },
     /// A call on the store failed. It is answered as soon as that is so.
     #[error("the store failed")]
     Store,

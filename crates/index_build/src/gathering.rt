@@ -8,7 +8,7 @@ ghost use Rattle.fb_types.specs.Types.{width_of};
 ghost use Rattle.column_file.specs.Values.{ValueFits, width_in};
 ghost use Rattle.index_spec.specs.Language.{IsGivenBinning};
 ghost use Rattle.part_meta.specs.PartText.{most_rows};
-ghost use Rattle.index_build.specs.Index.{AreBinsOf, AreRead, keys_by};
+ghost use Rattle.index_build.specs.Index.{AreBinsOf, AreRead, IsOfOutside, keys_by};
 
 use crate::reading::{ReadFault, block_rows, read_block};
 use binning::{Bin, Gatherer, Rule, bins, make_rule};
@@ -35,6 +35,8 @@ pub(crate) fn column_bins<S: Store, L: Ledger>(
     ensures cause { HasCause (S.faults store.old) (S.faults store.new) (IsErrOf result ReadFault.Store) }
     ensures files { SameFiles (S.files store.old) (S.files store.new) }
     ensures reads { AddsOnly (λ look. look.name ≡ column.now.name) (S.reads store.old) (S.reads store.new) }
+    ensures whole { (bytes : List ℕ) → told_at (S.files store.old) column.now.name ≡ Some bytes → length bytes ≡ column.now.rows * width_in column.now.ty
+        → IfErr result IsOfOutside }
     ensures bins { IfOk result (λ found. AreBinsOf (S.files store.old) column.now (keys_by spec.now column.now.mask) found.items) }
 {
     match &spec.binning {
@@ -61,6 +63,8 @@ fn all_numbers<S: Store>(
     ensures cause { HasCause (S.faults store.old) (S.faults store.new) (IsErrOf result ReadFault.Store) }
     ensures files { SameFiles (S.files store.old) (S.files store.new) }
     ensures reads { AddsOnly (λ look. look.name ≡ column.now.name) (S.reads store.old) (S.reads store.new) }
+    ensures whole { (bytes : List ℕ) → told_at (S.files store.old) column.now.name ≡ Some bytes → length bytes ≡ column.now.rows * width_in column.now.ty
+        → IfErr result IsOfOutside }
     ensures numbers { IfOk result (λ all. AreRead (S.files store.old) column.now column.now.rows all.items) }
 {
     let mut all = Vec::with_capacity(alloc, column.rows as usize)?;
@@ -89,6 +93,8 @@ fn gathered<S: Store, L: Ledger>(
     ensures cause { HasCause (S.faults store.old) (S.faults store.new) (IsErrOf result ReadFault.Store) }
     ensures files { SameFiles (S.files store.old) (S.files store.new) }
     ensures reads { AddsOnly (λ look. look.name ≡ column.now.name) (S.reads store.old) (S.reads store.new) }
+    ensures whole { (bytes : List ℕ) → told_at (S.files store.old) column.now.name ≡ Some bytes → length bytes ≡ column.now.rows * width_in column.now.ty
+        → IfErr result IsOfOutside }
     ensures bins { IfOk result (λ found. AreBinsOf (S.files store.old) column.now (λ numbers. rule) found.items) }
 {
     let mut gatherer = Gatherer::make(alloc, rule);

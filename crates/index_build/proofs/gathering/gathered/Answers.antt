@@ -48,13 +48,13 @@ loop-at-preserved g c =
           let mask = c.args.column.now.mask in
           let numbers = c.loop-at.invariant.numbers in
           let front : length (take at mask) ≡ length numbers =
-              omega (arith, length-take at mask, c.requires.mask, c.loop-at.invariant.read.number, c.loop-at.invariant.within) in
+          omega (arith, length-take at mask, c.requires.mask, c.loop-at.invariant.read.number, c.loop-at.invariant.within) in
           let count : at + n - at ≡ n = omega arith in
           let part : c.in_ok-present.present ≡ take n (drop at mask) = c.in_ok-present.ensures.part ∙ ap (λ k. take k (drop at mask)) count in
           let block = take n (c.read_block.new.block ++ drop n c.loop-at.block) in
           let joined : cells (take at mask) numbers ++ cells c.in_ok-present.present block ≡ cells (take (at + n) mask) (numbers ++ c.read_block.new.block) =
-              ap (λ column. cells (take at mask) numbers ++ column)
-              (ap (λ m. cells m block) part ∙ ap (cells (take n (drop at mask))) same) ∙ cells_more mask numbers c.read_block.new.block at n front in
+          ap (λ column. cells (take at mask) numbers ++ column)
+          (ap (λ m. cells m block) part ∙ ap (cells (take n (drop at mask))) same) ∙ cells_more mask numbers c.read_block.new.block at n front in
           subst (λ (column : List (Option ℤ)). Gathered c.in_ok-gatherer.gatherer column) joined
           (c.in_ok-gatherer.ensures.gathered (cells (take at mask) numbers) c.loop-at.invariant.gathers);
     }

@@ -2,3 +2,4 @@ pub mod LoadLemmas
 pub mod AnswerLemmas
 pub mod EndLemmas
 pub mod WorldLemmas
+pub mod LookLemmas

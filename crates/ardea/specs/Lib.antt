@@ -2,3 +2,4 @@ pub mod Load
 pub mod Answers
 pub mod Done
 pub mod Order
+pub mod Looks

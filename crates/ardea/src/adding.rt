@@ -5,8 +5,9 @@ ghost use Rattle.fb_outside.specs.Causes.{HasCause};
 ghost use Rattle.fb_outside.specs.Files.{SameFiles};
 ghost use Rattle.fb_outside.specs.Names.{IsPath};
 ghost use Rattle.fb_outside.specs.Puts.{PutsInOrder};
+ghost use Rattle.fb_outside.specs.Reads.{AddsOnly};
 ghost use Rattle.dataset.specs.Appended.{append_files};
-ghost use Rattle.dataset.specs.Opened.{IsDataset, catalog_in};
+ghost use Rattle.dataset.specs.Opened.{IsDataset, IsTextLook, catalog_in};
 ghost use Rattle.ardea.specs.Answers.{GivesCatalog, StopsBy, refusal_of};
 ghost use Rattle.ardea.specs.Load.{unless_refused};
 ghost use Rattle.part_meta.specs.PartText.{most_rows};
@@ -30,6 +31,7 @@ pub(crate) fn dataset_of<S: Store>(
     requires path { IsPath dir.now }
     ensures cause { HasCause (S.faults store.old) (S.faults store.new) (IsErrOf result Stop.StoreFault) }
     ensures files { SameFiles (S.files store.old) (S.files store.new) }
+    ensures reads { AddsOnly (IsTextLook dir.now) (S.reads store.old) (S.reads store.new) }
     ensures path { IfOk result (λ dataset. dataset.dir ≡ dir.now) }
     ensures valid { IfOk result IsDataset }
     ensures catalog { IfOk result (λ dataset. GivesCatalog dir.now schema.now (S.files store.old) (Ok (catalog_in dataset))) }
@@ -83,6 +85,7 @@ pub(crate) fn add<S: Store, L: Ledger>(
         ⊥ (refusal_of (catalog_in dataset.old) per_part columns.now ≡ None)) }
     ensures kept { refusal_of (catalog_in dataset.old) per_part columns.now ≢ None
         → SameFiles (S.files store.old) (S.files store.new) }
+    ensures reads { S.reads store.new ≡ S.reads store.old }
     ensures files { PutsInOrder (append_files dataset.old.dir (catalog_in dataset.old) per_part columns.now.records) result
         (S.files store.old) (S.files store.new) }
 {

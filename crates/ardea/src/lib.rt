@@ -7,9 +7,11 @@ mod reading;
 
 ghost use Rattle.std.specs.Prelude.{◌≡◌, true, false, None, IsErrOf, OnOk};
 ghost use Rattle.fb_outside.specs.Causes.{HasCause};
+ghost use Rattle.fb_outside.specs.Reads.{AddsOnly};
 ghost use Rattle.fb_outside.specs.Streams.{ForSomeInput, IsAtEnd};
 ghost use Rattle.command_words.specs.Valid.{IsValidLoad};
 ghost use Rattle.ardea.specs.Done.{Ends};
+ghost use Rattle.ardea.specs.Looks.{IsLoadLook};
 ghost use Rattle.ardea.specs.Order.{load_asks_store, load_takes_input};
 
 use crate::adding::{add, dataset_of};
@@ -42,6 +44,7 @@ pub fn load<I: Source, S: Store, L: Ledger>(
     ensures read_cause { HasCause (I.faults input.old) (I.faults input.new) (IsErrOf result Stop.ReadFault) }
     ensures store_cause { HasCause (S.faults store.old) (S.faults store.new) (IsErrOf result Stop.StoreFault) }
     ensures end { load.now.file ≡ None → OnOk result (IsAtEnd (I.left input.new)) }
+    ensures reads { AddsOnly (IsLoadLook load.now) (S.reads store.old) (S.reads store.new) }
     ensures ends { Ends load.now (I.left input.old) (S.files store.old) (S.files store.new) result }
 
     // The input is asked for where the schema isn't refused, and the store where the records aren't; for a file that the

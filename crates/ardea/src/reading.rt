@@ -4,10 +4,12 @@ ghost use Rattle.std.specs.Prelude.{◌≡◌, ◌≤◌, ⊤, true, false, None
 ghost use Rattle.fb_outside.specs.Causes.{HasCause};
 ghost use Rattle.fb_outside.specs.Files.{SameFiles};
 ghost use Rattle.fb_outside.specs.Streams.{ForSomeInput, IsAtEnd};
+ghost use Rattle.fb_outside.specs.Reads.{AddsOnly};
 ghost use Rattle.csv_load.specs.Loaded.{loaded};
 ghost use Rattle.ardea.specs.Answers.{GivesFile, GivesInput, GivesTable, GivesText, StopsBy};
 ghost use Rattle.part_meta.specs.PartText.{most_rows};
 ghost use Rattle.ardea.specs.Load.{load_schema, most_input_bytes, records_or_refusal};
+ghost use Rattle.ardea.specs.Looks.{IsInputLook};
 ghost use Rattle.ardea.specs.Order.{load_takes_input};
 
 use crate::{MOST_INPUT_BYTES, MOST_ROWS};
@@ -30,6 +32,7 @@ pub(crate) fn table_of<I: Source, S: Store>(
     ensures read_cause { HasCause (I.faults input.old) (I.faults input.new) (IsErrOf result Stop.ReadFault) }
     ensures store_cause { HasCause (S.faults store.old) (S.faults store.new) (IsErrOf result Stop.StoreFault) }
     ensures files { SameFiles (S.files store.old) (S.files store.new) }
+    ensures reads { AddsOnly (IsInputLook load.now.file) (S.reads store.old) (S.reads store.new) }
     ensures end { load.now.file ≡ None → OnOk result (IsAtEnd (I.left input.new)) }
     ensures table { IfOk result (λ table. GivesTable load.now (I.left input.old) (S.files store.old) (Ok table)) }
     ensures few { OnOk result (load.now.per_part ≤ most_rows) }
@@ -84,6 +87,7 @@ fn text_of<I: Source, S: Store>(
     ensures read_cause { HasCause (I.faults input.old) (I.faults input.new) (IsErrOf result Stop.ReadFault) }
     ensures store_cause { HasCause (S.faults store.old) (S.faults store.new) (IsErrOf result Stop.StoreFault) }
     ensures files { SameFiles (S.files store.old) (S.files store.new) }
+    ensures reads { AddsOnly (IsInputLook load.now.file) (S.reads store.old) (S.reads store.new) }
     ensures end { load.now.file ≡ None → OnOk result (IsAtEnd (I.left input.new)) }
     ensures text { IfOk result (λ text. GivesText load.now (I.left input.old) (S.files store.old) (Ok text.items)) }
     ensures stop { IfErr result (StopsBy
@@ -115,6 +119,7 @@ fn text_of_input<I: Source>(alloc: Global, input: &mut I) -> Result<Vec<u8>, Sto
 fn text_of_file<S: Store>(alloc: Global, name: &FileName, store: &mut S) -> Result<Vec<u8>, Stop>
     ensures cause { HasCause (S.faults store.old) (S.faults store.new) (IsErrOf result Stop.StoreFault) }
     ensures files { SameFiles (S.files store.old) (S.files store.new) }
+    ensures reads { AddsOnly (λ look. look.name ≡ name.now) (S.reads store.old) (S.reads store.new) }
     ensures text { IfOk result (λ text. GivesFile name.now (S.files store.old) (Ok text.items)) }
     ensures stop { IfErr result (StopsBy (λ status. GivesFile name.now (S.files store.old) (Err status)) ⊥ ⊤) }
 {

@@ -22,7 +22,7 @@ pow_pos (suc k) = let h = pow_pos k in let e : 10 ^ (suc k) ≡ 10 ^ k * 10 = po
 pub pow_next : (k : ℕ) → 10 ^ (k + 1) ≡ 10 ^ k * 10
 pow_next k = pow-add 10 k 1
 
-pow_le : (a b : ℕ) → a ≤ b → 10 ^ a ≤ 10 ^ b
+pub pow_le : (a b : ℕ) → a ≤ b → 10 ^ a ≤ 10 ^ b
 pow_le a b h =
     let e : a + (b - a) ≡ b = omega arith in
     let p = pow-add 10 a (b - a) in

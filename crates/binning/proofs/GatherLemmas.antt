@@ -54,7 +54,7 @@ extremes-push : (vs : List ℤ) (v : ℤ) → (vs ≡ [] → ⊥) → (least_of 
 extremes-push [] v some = absurd (some refl)
 extremes-push (x ∷ vs) v some = (fold-push int_min x vs v, fold-push int_max x vs v)
 
-values_some : (keys : Keying) (k : ℤ) (vs : List ℤ) → is_in k (map (key keys) vs) ≡ true → filter (λ v. int_eq (key keys v) k) vs ≡ [] → ⊥
+pub values_some : (keys : Keying) (k : ℤ) (vs : List ℤ) → is_in k (map (key keys) vs) ≡ true → filter (λ v. int_eq (key keys v) k) vs ≡ [] → ⊥
 values_some keys k [] h e = not_both h refl
 values_some keys k (v ∷ vs) h e =
     either (int_eq (key keys v) k)

@@ -47,10 +47,10 @@ or_left a b h = rw h refl
 pub or_right : (a b : Bool) → a ≡ false → (a || b) ≡ b
 or_right a b h = rw h refl
 
-lt_of : (a b : ℤ) → int_lt a b ≡ true → a <ℤ b
+pub lt_of : (a b : ℤ) → int_lt a b ≡ true → a <ℤ b
 lt_of a b h = grind (arith, ints)
 
-le_of : (a b : ℤ) → int_lt a b ≡ false → b ≤ℤ a
+pub le_of : (a b : ℤ) → int_lt a b ≡ false → b ≤ℤ a
 le_of a b h = grind (arith, ints)
 
 or_no : (a b : Bool) → (a || b) ≡ false → (a ≡ false) × (b ≡ false)

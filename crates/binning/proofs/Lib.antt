@@ -10,3 +10,5 @@ pub mod GroupLemmas
 pub mod OrderLemmas
 pub mod GatherLemmas
 pub mod ColumnLemmas
+pub mod KeyOrderLemmas
+pub mod BinOrderLemmas

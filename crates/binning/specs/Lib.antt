@@ -5,6 +5,7 @@ pub mod Keys
 pub mod Gathered
 pub mod Groups
 pub mod Bins
+pub mod Order
 pub mod BinFor
 pub mod Members
 pub mod Encodings

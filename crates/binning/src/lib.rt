@@ -21,7 +21,7 @@ pub use against_bins::{Three, against};
 pub use encodings::{EncFault, Encoding};
 pub use gathering::{Bin, Gatherer, bins};
 pub use groups::Group;
-pub use laws::{bins_of_a_column, rising_numbers};
+pub use laws::{bins_in_order, bins_of_a_column, rising_numbers};
 pub use rules::{Keying, Rule, make_rule};
 pub use span_lists::{Span, Spans};
 

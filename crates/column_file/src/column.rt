@@ -123,6 +123,7 @@ pub fn read_rows<S: Store>(
         → OnErr result (IsErrOf result ColFault.Store) }
     ensures rows { (values : List ℤ) → told_at (S.files store.old) column.now.name ≡ Some (values_bytes column.now.ty values)
         → All (λ value. ValueFits value column.now.ty) values → OnOk result (out.new ≡ take (length out.old) (drop first values)) }
+    ensures fit { OnOk result (All (λ value. ValueFits value column.now.ty) out.new) }
     ensures files { SameFiles (S.files store.old) (S.files store.new) }
     ensures reads { AddsRead (S.files store.old) (S.reads store.old) (S.reads store.new)
         (record { name = column.now.name; offset = first * width_in column.now.ty; room = length out.old * width_in column.now.ty }) }
@@ -153,6 +154,7 @@ fn read_through<const N: usize, S: Store>(
         → OnErr result (IsErrOf result ColFault.Store) }
     ensures rows { (values : List ℤ) → told_at (S.files store.old) column.now.name ≡ Some (values_bytes column.now.ty values)
         → All (λ value. ValueFits value column.now.ty) values → OnOk result (out.new ≡ take (length out.old) (drop first values)) }
+    ensures fit { OnOk result (All (λ value. ValueFits value column.now.ty) out.new) }
     ensures files { SameFiles (S.files store.old) (S.files store.new) }
     ensures reads { AddsRead (S.files store.old) (S.reads store.old) (S.reads store.new)
         (record { name = column.now.name; offset = first * width_in column.now.ty; room = length out.old * width_in column.now.ty }) }
@@ -181,6 +183,7 @@ fn read_by<S: Store>(
         → OnErr result (IsErrOf result ColFault.Store) }
     ensures rows { (values : List ℤ) → told_at (S.files store.old) column.now.name ≡ Some (values_bytes column.now.ty values)
         → All (λ value. ValueFits value column.now.ty) values → OnOk result (out.new ≡ take (length out.old) (drop first values)) }
+    ensures fit { OnOk result (All (λ value. ValueFits value column.now.ty) out.new) }
     ensures files { SameFiles (S.files store.old) (S.files store.new) }
     ensures reads { AddsRead (S.files store.old) (S.reads store.old) (S.reads store.new)
         (record { name = column.now.name; offset = first * width_in column.now.ty; room = length out.old * width_in column.now.ty }) }

@@ -4,3 +4,4 @@ pub mod Effects
 pub mod Causes
 pub mod Order
 pub mod Runs
+pub mod Looks

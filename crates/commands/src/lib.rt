@@ -8,6 +8,7 @@ mod questions;
 ghost use Rattle.std.specs.Prelude.{◌≡◌, ◌≢◌, true, false, None, Some, IfSome};
 ghost use Rattle.fb_outside.specs.Causes.{HasCause};
 ghost use Rattle.fb_outside.specs.Files.{ChangesAmong, SameFiles};
+ghost use Rattle.fb_outside.specs.Reads.{AddsOnly};
 ghost use Rattle.fb_outside.specs.Streams.{ForSomeInput, IsAtEnd};
 ghost use Rattle.command_words.specs.Valid.{IsValid, IsValidLoad};
 ghost use Rattle.world.specs.World.{World};
@@ -16,8 +17,10 @@ ghost use Rattle.commands.specs.Command.{command_of, command_outcome};
 ghost use Rattle.commands.specs.Reply.{Replies, is_fault};
 ghost use Rattle.commands.specs.Effects.{IsOfCommand, LeavesAfter};
 ghost use Rattle.commands.specs.Causes.{ComesTo, HasCauseIn, Says};
+ghost use Rattle.commands.specs.Looks.{IsLookOf};
 ghost use Rattle.commands.specs.Order.{Yields, takes_input};
 ghost use Rattle.commands.specs.Runs.{LoadRuns};
+ghost use Rattle.ardea.specs.Looks.{IsLoadLook};
 ghost use Rattle.ardea.specs.Order.{load_takes_input};
 
 use crate::printing::print_loaded;
@@ -56,6 +59,9 @@ pub fn run_command<I: Source, S: Store, K: Sink, L: Ledger>(
     ensures kept { ChangesAmong (IsOfCommand (command_of asked.now)) (S.files store.old) (S.files store.new) }
     ensures refused { is_fault result ≡ false → result ≢ Status.Done → SameFiles (S.files store.old) (S.files store.new) }
 
+    // Each added read is of a file of that command.
+    ensures reads { AddsOnly (IsLookOf (command_of asked.now)) (S.reads store.old) (S.reads store.new) }
+
     // Each status has its cause, and what it comes to is printed.
     ensures causes { HasCauseIn (ComesTo (command_of asked.now) (I.left input.old) (S.files store.old)) result }
     ensures prints { Says (ComesTo (command_of asked.now) (I.left input.old) (S.files store.old)) result
@@ -92,6 +98,7 @@ fn run_job<I: Source, S: Store, K: Sink, L: Ledger>(
     ensures end { takes_input (command_of (Some job.now)) ≡ true → result ≡ Status.Done → IsAtEnd (I.left input.new) }
     ensures kept { ChangesAmong (IsOfCommand (command_of (Some job.now))) (S.files store.old) (S.files store.new) }
     ensures refused { is_fault result ≡ false → result ≢ Status.Done → SameFiles (S.files store.old) (S.files store.new) }
+    ensures reads { AddsOnly (IsLookOf (command_of (Some job.now))) (S.reads store.old) (S.reads store.new) }
     ensures causes { HasCauseIn (ComesTo (command_of (Some job.now)) (I.left input.old) (S.files store.old)) result }
     ensures prints { Says (ComesTo (command_of (Some job.now)) (I.left input.old) (S.files store.old)) result
         (K.written out.old) (K.written out.new) }
@@ -122,6 +129,7 @@ fn run_load<I: Source, S: Store, K: Sink, L: Ledger>(
     requires valid { IsValidLoad asked.now }
     ensures runs { LoadRuns asked.now (I.left input.old) (S.files store.old) (S.files store.new)
         (K.written out.old) (K.written out.new) result }
+    ensures reads { AddsOnly (IsLoadLook asked.now) (S.reads store.old) (S.reads store.new) }
     ensures end { asked.now.file ≡ None → result ≡ Status.Done → IsAtEnd (I.left input.new) }
     ensures untouched { load_takes_input asked.now ≡ false
         → (I.left input.new ≡ I.left input.old) × (I.faults input.new ≡ I.faults input.old) }

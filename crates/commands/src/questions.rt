@@ -4,8 +4,12 @@ ghost use Rattle.std.specs.Prelude.{◌≡◌, ℕ, IsUtf8, List, Option};
 ghost use Rattle.fb_outside.specs.Causes.{HasCause};
 ghost use Rattle.fb_outside.specs.Files.{SameFiles};
 ghost use Rattle.fb_outside.specs.Names.{IsPath};
+ghost use Rattle.fb_outside.specs.Reads.{AddsOnly};
 ghost use Rattle.command_words.specs.Valid.{IsValidTask};
+ghost use Rattle.dataset.specs.Opened.{IsTextLook};
+ghost use Rattle.ibis.specs.Looks.{IsCountLook};
 ghost use Rattle.commands.specs.Command.{Counts, Lists, command_of_task};
+ghost use Rattle.commands.specs.Looks.{IsLookOf};
 ghost use Rattle.commands.specs.Runs.{Runs};
 
 use crate::printing::{print_hits, print_text, refuse};
@@ -32,6 +36,7 @@ pub(crate) fn run_task<S: Store, K: Sink, L: Ledger>(
     ensures runs { (left : Option (List ℕ)) → Runs (command_of_task dir.now task.now) left (S.files store.old)
         (K.written out.old) (K.written out.new) result }
     ensures files { SameFiles (S.files store.old) (S.files store.new) }
+    ensures reads { AddsOnly (IsLookOf (command_of_task dir.now task.now)) (S.reads store.old) (S.reads store.new) }
     ensures store_cause { HasCause (S.faults store.old) (S.faults store.new) (result ≡ Status.StoreFault) }
     ensures print_cause { HasCause (K.faults out.old) (K.faults out.new) (result ≡ Status.SinkFault) }
 {
@@ -59,6 +64,7 @@ fn run_count<S: Store, K: Sink, L: Ledger>(
     ensures runs { (left : Option (List ℕ)) → Runs (Counts dir.now query.now) left (S.files store.old)
         (K.written out.old) (K.written out.new) result }
     ensures files { SameFiles (S.files store.old) (S.files store.new) }
+    ensures reads { AddsOnly (IsCountLook dir.now query.now) (S.reads store.old) (S.reads store.new) }
     ensures store_cause { HasCause (S.faults store.old) (S.faults store.new) (result ≡ Status.StoreFault) }
     ensures print_cause { HasCause (K.faults out.old) (K.faults out.new) (result ≡ Status.SinkFault) }
 {
@@ -76,6 +82,7 @@ fn run_list<S: Store, K: Sink>(alloc: Global, dir: &FileName, store: &mut S, out
     ensures runs { (left : Option (List ℕ)) → Runs (Lists dir.now) left (S.files store.old)
         (K.written out.old) (K.written out.new) result }
     ensures files { SameFiles (S.files store.old) (S.files store.new) }
+    ensures reads { AddsOnly (IsTextLook dir.now) (S.reads store.old) (S.reads store.new) }
     ensures store_cause { HasCause (S.faults store.old) (S.faults store.new) (result ≡ Status.StoreFault) }
     ensures print_cause { HasCause (K.faults out.old) (K.faults out.new) (result ≡ Status.SinkFault) }
 {

@@ -13,7 +13,7 @@ pub lines_from_start : (text : List ℕ) → lines_from text 0 ≡ lines_of text
 lines_from_start text = rw (leb-zero (length text)) refl
 
 -- none are behind the end
-lines_from_end : (text : List ℕ) (at : ℕ) → length text < at → lines_from text at ≡ []
+pub lines_from_end : (text : List ℕ) (at : ℕ) → length text < at → lines_from text at ≡ []
 lines_from_end text at h = rw (lt-leb at (length text) h) refl
 
 module _ (text : List ℕ) (at : ℕ) (left : Option (List ℕ)) (old new : Option Files) (before now : Option (List ℕ)) (status : Status) where
@@ -32,3 +32,13 @@ module _ (text : List ℕ) (at : ℕ) (left : Option (List ℕ)) (old new : Opti
   run_goes line more files written ended first runs fine rest =
       subst (λ (lines : List (List ℕ)). LinesRun lines left old new before now status) (sym first)
       (inr (record { files = files; written = written; status = ended; runs = runs; fine = fine; rest = rest }))
+
+  -- the same of the line at a place, and those from the next one on; what the source has left may be told otherwise
+  pub run_next : (line : List ℕ) (next : ℕ) (mid : Option (List ℕ)) (files : Option Files) (written : Option (List ℕ)) (ended : Status)
+      → lines_from text at ≡ line ∷ lines_from text (at + length line + 1) → next ≡ at + length line + 1 → mid ≡ left
+      → LineRuns line mid old files before written ended → is_fault ended ≡ false → LinesRun (lines_from text next) left files new written now status
+      → LinesRun (lines_from text at) left old new before now status
+  run_next line next mid files written ended first is same runs fine rest =
+      run_goes line (lines_from text (at + length line + 1)) files written ended first
+      (subst (λ (told : Option (List ℕ)). LineRuns line told old files before written ended) same runs) fine
+      (subst (λ (n : ℕ). LinesRun (lines_from text n) left files new written now status) is rest)

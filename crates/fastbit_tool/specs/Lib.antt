@@ -1,3 +1,4 @@
 pub mod Completes
 pub mod Requests
 pub mod Session
+pub mod Looks

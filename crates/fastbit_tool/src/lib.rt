@@ -6,6 +6,7 @@ mod sessions;
 ghost use Rattle.std.specs.Prelude.{◌≡◌, ◌≢◌, true, false};
 ghost use Rattle.fb_outside.specs.Causes.{HasCause, Rose};
 ghost use Rattle.fb_outside.specs.Files.{ChangesAmong, SameFiles};
+ghost use Rattle.fb_outside.specs.Reads.{AddsReads};
 ghost use Rattle.fb_outside.specs.Streams.{ForSomeInput, IsAtEnd};
 ghost use Rattle.command_words.specs.Words.{asked_by};
 ghost use Rattle.world.specs.World.{World};
@@ -14,6 +15,7 @@ ghost use Rattle.commands.specs.Reply.{Replies, is_fault};
 ghost use Rattle.commands.specs.Effects.{LeavesAfter};
 ghost use Rattle.commands.specs.Causes.{HasCauseIn};
 ghost use Rattle.fastbit_tool.specs.Completes.{Completes};
+ghost use Rattle.fastbit_tool.specs.Looks.{AskedRead};
 ghost use Rattle.fastbit_tool.specs.Requests.{AskedComesTo, AskedRuns, AskedYields, IsOfAsked, asked_of, is_session, outcome, takes_input};
 
 use command_words::{Job, request};
@@ -55,6 +57,10 @@ pub fn run<I: Source, S: Store, K: Sink, L: Ledger>(
     ensures kept { ForSomeInput (I.left input.old)
         (λ bytes. ChangesAmong (IsOfAsked (asked_of (asked_by words.now)) bytes) (S.files store.old) (S.files store.new)) }
     ensures refused { is_fault result ≡ false → result ≢ Status.Done → SameFiles (S.files store.old) (S.files store.new) }
+
+    // Each added read is of a file of the command, by a session line by line.
+    ensures reads { ForSomeInput (I.left input.old)
+        (λ bytes. AddsReads (S.reads store.old) (S.reads store.new) (AskedRead (asked_of (asked_by words.now)) bytes)) }
 
     // Each status has its cause, and what it comes to is printed, by a session line by line.
     ensures causes { HasCauseIn (AskedComesTo (asked_of (asked_by words.now)) (I.left input.old) (S.files store.old)) result }

@@ -1,10 +1,12 @@
 -- The rows of a part that are counted are its cells, and a fault of its files is a damage of the dataset.
-use Rattle.std.proofs.Common.{◌≡◌, ◌≢◌, ◌+◌, ◌*◌, ◌<◌, ◌≤◌, ℕ, zero, suc, ℤ, Bool, true, false, eqb, if◌then◌else◌, List, [], ◌∷◌, ◌++◌, length, take, map, get_or, Option, Some, None, IfSome, IsSome, Result, Ok, Err, refl, sym, ap, subst, ◌∙◌, arith}
+use Rattle.std.proofs.Common.{inl, inr, ◌≡◌, ◌≢◌, ◌+◌, ◌*◌, ◌<◌, ◌≤◌, ℕ, zero, suc, ℤ, Bool, true, false, eqb, if◌then◌else◌, List, [], ◌∷◌, ◌++◌, length, take, map, get_or, Option, Some, None, IfSome, IsSome, Result, Ok, Err, refl, sym, ap, subst, ◌∙◌, arith}
 use Rattle.std.specs.List.{All, flat_map, slice_get}
 use Rattle.std.specs.Prelude.{IfErr, IfOk, IsErrOf, OnErr}
 use Rattle.std.proofs.lemmas.Bool.{eqb-true}
 use Rattle.std.proofs.lemmas.Grind.{flat_map-append}
 use Rattle.fb_outside.specs.Files.{Files, file_at, told_at}
+use Rattle.fb_outside.specs.Reads.{AddsOnly, IsWholeLook, Look}
+use Rattle.fb_outside.proofs.ReadLemmas.{AddsOnly-trans, AddsOnly-weaken}
 use Rattle.fb_types.specs.declared.cells.Cell.{Cell}
 use Rattle.fb_types.specs.declared.schemas.Column.{Column}
 use Rattle.fb_types.specs.declared.types.ColType.{ColType}
@@ -20,7 +22,7 @@ use Rattle.world.specs.PartFiles.{column_cells, is_present, number_of, part_data
 use Rattle.world.specs.World.{Partition}
 use Rattle.dataset.specs.Damage.{IsColumnDamaged}
 use Rattle.dataset.specs.InWorld.{stored_numbers}
-use Rattle.dataset.specs.Opened.{IsDataset, IsPartOf}
+use Rattle.dataset.specs.Opened.{IsDataset, IsPartOf, IsTextLook}
 use Rattle.std.proofs.lemmas.Option.{slice_get_read}
 use Rattle.dataset.specs.PartColumns.{IfDamaged, IsOpened, OpensColumn, column_at, mask_file, values_file}
 use Rattle.dataset.specs.declared.content.Dataset.{Dataset}
@@ -32,6 +34,9 @@ use Rattle.statuses.specs.declared.stop.Unanswered.TheVariants.{Refused}
 use Rattle.ibis.specs.declared.rows.RowsFault.{RowsFault}
 use Rattle.ibis.specs.declared.rows.RowsFault.TheVariants.{Short, Store}
 use Rattle.ibis.specs.Count.{damaged_status}
+use Rattle.ibis.specs.declared.query.Below.{Below}
+use Rattle.ibis.specs.Looks.{IsAskedLook, IsColumnLook, IsCountLook}
+use Rattle.ibis.specs.Query.{read_query}
 use Rattle.ibis.specs.Rows.{HasCells, HasColumn, HasParts, HasValues, cells_in_parts, passing}
 use Rattle.ibis.specs.Steps.{StopsIn, stop_of_part}
 use Rattle.ibis.proofs.RowLemmas.{passing-append}
@@ -182,3 +187,31 @@ part_at dataset items k part valid same less is =
     let listed : slice_get dataset.parts k ≡ Some part =
     subst (λ (xs : List PartMeta). slice_get xs k ≡ Some part) same (slice_get_read items (length items) k part refl less is) in
     ((All-at (IsPartOf dataset) dataset.parts k part listed valid.parts).0.few, listed)
+
+-- ---- reads
+
+-- the mask and then the values of a part's column
+pub part_looks : (files : Option Files) (dataset : Dataset) (part : PartMeta) (column : Column) (opened : ColumnRef) (old mid new : Option (List Look))
+    → part.number < 4096 → IsOpened dataset part column opened → AddsOnly (IsWholeLook files (mask_file dataset part column)) old mid
+    → AddsOnly (λ look. look.name ≡ opened.name) mid new → AddsOnly (IsColumnLook dataset.dir column.name) old new
+part_looks files dataset part column opened old mid new few is h k =
+    AddsOnly-trans (IsColumnLook dataset.dir column.name) old mid new
+    (AddsOnly-weaken (IsWholeLook files (mask_file dataset part column)) (IsColumnLook dataset.dir column.name) old mid
+    (λ look w. record { number = part.number; few = few; file = inr w.of_it }) h)
+    (AddsOnly-weaken (λ look. look.name ≡ opened.name) (IsColumnLook dataset.dir column.name) mid new
+    (λ look e. record { number = part.number; few = few; file = inl (e ∙ is.file) }) k)
+
+-- the texts of the dataset alone
+pub text_looks : (dir query : List ℕ) (old new : Option (List Look)) → AddsOnly (IsTextLook dir) old new → AddsOnly (IsCountLook dir query) old new
+text_looks dir query old new h = AddsOnly-weaken (IsTextLook dir) (IsCountLook dir query) old new (λ look w. inl w) h
+
+-- and then the column that the query names
+pub asked_looks : (dir query path name : List ℕ) (below : Below) (old mid new : Option (List Look)) → read_query query ≡ Ok below → path ≡ dir
+    → name ≡ below.name → AddsOnly (IsTextLook dir) old mid → AddsOnly (IsColumnLook path name) mid new → AddsOnly (IsCountLook dir query) old new
+asked_looks dir query path name below old mid new asks same named h k =
+    AddsOnly-trans (IsCountLook dir query) old mid new (text_looks dir query old mid h)
+    (AddsOnly-weaken (IsColumnLook path name) (IsCountLook dir query) mid new
+    (λ look w. inr (record { below = below; asks = asks; file = column_of look w })) k)
+  where
+    column_of : (look : Look) → IsColumnLook path name look → IsColumnLook dir below.name look
+    column_of look w = subst (λ (n : List ℕ). IsColumnLook dir n look) named (subst (λ (p : List ℕ). IsColumnLook p name look) same w)

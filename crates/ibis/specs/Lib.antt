@@ -4,3 +4,4 @@ pub mod Listing
 pub mod Steps
 pub mod Rows
 pub mod Runs
+pub mod Looks

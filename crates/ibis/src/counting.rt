@@ -4,12 +4,14 @@ ghost use Rattle.std.specs.Prelude.{◌≡◌, ◌<◌, ◌≤◌, ◌*◌, ℕ,
 ghost use Rattle.fb_outside.specs.Causes.{HasCause};
 ghost use Rattle.fb_outside.specs.Files.{Files, SameFiles};
 ghost use Rattle.fb_outside.specs.Names.{IsPath};
+ghost use Rattle.fb_outside.specs.Reads.{AddsOnly};
 ghost use Rattle.fb_types.specs.declared.cells.Cell.{Cell};
 ghost use Rattle.fb_types.specs.Types.{ends_of};
 ghost use Rattle.world.specs.PartFiles.{part_data};
 ghost use Rattle.world.specs.World.{Partition};
 ghost use Rattle.dataset.specs.Opened.{IsDataset};
 ghost use Rattle.ibis.specs.Count.{CountGives, CountsRecords};
+ghost use Rattle.ibis.specs.Looks.{IsColumnLook, IsCountLook};
 ghost use Rattle.ibis.specs.Query.{read_query};
 ghost use Rattle.ibis.specs.Rows.{HasColumn, HasParts, cells_in_parts, passing};
 ghost use Rattle.ibis.specs.Steps.{StopsIn};
@@ -40,6 +42,7 @@ pub fn count<S: Store, L: Ledger>(
     requires text { IsUtf8 query.now }
     ensures cause { HasCause (S.faults store.old) (S.faults store.new) (IsErrOf result Unanswered.StoreFault) }
     ensures files { SameFiles (S.files store.old) (S.files store.new) }
+    ensures reads { AddsOnly (IsCountLook dir.now query.now) (S.reads store.old) (S.reads store.new) }
     ensures gives { CountGives dir.now query.now (S.files store.old) result }
 
     // Where the files stand for a world, the count is that of its records.
@@ -80,6 +83,7 @@ fn count_parts<S: Store, L: Ledger>(
     requires whole { IsSome (ends_of column.now.ty) }
     ensures cause { HasCause (S.faults store.old) (S.faults store.new) (IsErrOf result Unanswered.StoreFault) }
     ensures files { SameFiles (S.files store.old) (S.files store.new) }
+    ensures reads { AddsOnly (IsColumnLook dataset.now.dir column.now.name) (S.reads store.old) (S.reads store.new) }
     ensures stop { IfErr result (StopsIn (S.files store.old) dataset.now column.now.name) }
     ensures counts { (m : Files) (col : ℕ) (parts : List Partition) → S.files store.old ≡ Some m → HasParts m dataset.now column.now col parts
         → IfOk result (λ hits. hits ≡ passing below.now.limit (cells_in_parts col parts)) }
@@ -109,6 +113,7 @@ fn count_part<S: Store, L: Ledger>(
     requires whole { IsSome (ends_of column.now.ty) }
     ensures cause { HasCause (S.faults store.old) (S.faults store.new) (IsErrOf result Unanswered.StoreFault) }
     ensures files { SameFiles (S.files store.old) (S.files store.new) }
+    ensures reads { AddsOnly (IsColumnLook dataset.now.dir column.now.name) (S.reads store.old) (S.reads store.new) }
     ensures few { IfOk result (λ hits. hits ≤ part.now.rows) }
     ensures stop { IfErr result (StopsIn (S.files store.old) dataset.now column.now.name) }
     ensures counts { (m : Files) (cells : List Cell) → S.files store.old ≡ Some m → length cells ≡ part.now.rows

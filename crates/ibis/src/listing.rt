@@ -4,6 +4,8 @@ ghost use Rattle.std.specs.Prelude.{◌≡◌, ◌++◌, IfOk, IsErrOf, OnOk};
 ghost use Rattle.fb_outside.specs.Causes.{HasCause};
 ghost use Rattle.fb_outside.specs.Files.{SameFiles};
 ghost use Rattle.fb_outside.specs.Names.{IsPath};
+ghost use Rattle.fb_outside.specs.Reads.{AddsOnly};
+ghost use Rattle.dataset.specs.Opened.{IsTextLook};
 ghost use Rattle.ibis.specs.Listing.{ListGives, listing, part_line, schema_line, text_of};
 
 use crate::opening::opened;
@@ -19,6 +21,7 @@ pub fn list<S: Store>(alloc: Global, dir: &FileName, store: &mut S) -> Result<Ve
     requires path { IsPath dir.now }
     ensures cause { HasCause (S.faults store.old) (S.faults store.new) (IsErrOf result Unanswered.StoreFault) }
     ensures files { SameFiles (S.files store.old) (S.files store.new) }
+    ensures reads { AddsOnly (IsTextLook dir.now) (S.reads store.old) (S.reads store.new) }
     ensures gives { ListGives dir.now (S.files store.old) (text_of result) }
 {
     let dataset = match opened(alloc, store, dir) {

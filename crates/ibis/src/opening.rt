@@ -4,7 +4,8 @@ ghost use Rattle.std.specs.Prelude.{◌≡◌, IfOk, IsErrOf};
 ghost use Rattle.fb_outside.specs.Causes.{HasCause};
 ghost use Rattle.fb_outside.specs.Files.{SameFiles};
 ghost use Rattle.fb_outside.specs.Names.{IsPath};
-ghost use Rattle.dataset.specs.Opened.{IsDataset};
+ghost use Rattle.fb_outside.specs.Reads.{AddsOnly};
+ghost use Rattle.dataset.specs.Opened.{IsDataset, IsTextLook};
 ghost use Rattle.ibis.specs.Count.{damaged_status};
 ghost use Rattle.ibis.specs.Steps.{Finds, stop_of_part};
 
@@ -24,6 +25,8 @@ pub(crate) fn opened<S: Store>(
     ensures cause { HasCause (S.faults store.old) (S.faults store.new) (IsErrOf result Unanswered.StoreFault) }
     ensures files { SameFiles (S.files store.old) (S.files store.new) }
     ensures valid { IfOk result IsDataset }
+    ensures path { IfOk result (λ dataset. dataset.dir ≡ dir.now) }
+    ensures reads { AddsOnly (IsTextLook dir.now) (S.reads store.old) (S.reads store.new) }
     ensures finds { Finds dir.now (S.files store.old) result }
 {
     match open_dataset(alloc, store, dir) {

@@ -3,6 +3,7 @@
 ghost use Rattle.std.specs.Prelude.{◌≡◌, ◌+◌, ◌-◌, ◌*◌, ◌<◌, ◌≤◌, ℕ, ℤ, List, ◌∷◌, Some, IfErr, IfOk, IsErrOf, IsSome, OnErr, OnOk, drop, length, take};
 ghost use Rattle.fb_outside.specs.Causes.{HasCause};
 ghost use Rattle.fb_outside.specs.Files.{SameFiles, told_at};
+ghost use Rattle.fb_outside.specs.Reads.{AddsOnly};
 ghost use Rattle.fb_types.specs.declared.cells.Cell.{Cell};
 ghost use Rattle.fb_types.specs.Types.{ends_of, width_of};
 ghost use Rattle.column_file.specs.Values.{width_in};
@@ -39,6 +40,7 @@ pub(crate) fn count_rows<S: Store, L: Ledger>(
     requires few { column.now.rows ≤ most_rows }
     ensures cause { HasCause (S.faults store.old) (S.faults store.new) (IsErrOf result RowsFault.Store) }
     ensures files { SameFiles (S.files store.old) (S.files store.new) }
+    ensures reads { AddsOnly (λ look. look.name ≡ column.now.name) (S.reads store.old) (S.reads store.new) }
     ensures few { IfOk result (λ hits. hits ≤ column.now.rows) }
 
     // Over a file of the right length all bytes come, and the hits are those of the cells that the files have.
@@ -87,6 +89,7 @@ fn read_block<S: Store>(
     requires few { length block.old ≤ MAX_ROWS_READ }
     ensures cause { HasCause (S.faults store.old) (S.faults store.new) (IsErrOf result RowsFault.Store) }
     ensures files { SameFiles (S.files store.old) (S.files store.new) }
+    ensures reads { AddsOnly (λ look. look.name ≡ column.now.name) (S.reads store.old) (S.reads store.new) }
     ensures room { length block.new ≡ length block.old }
     ensures whole { (bytes : List ℕ) → told_at (S.files store.old) column.now.name ≡ Some bytes → length bytes ≡ column.now.rows * width_in column.now.ty
         → OnErr result (IsErrOf result RowsFault.Store) }

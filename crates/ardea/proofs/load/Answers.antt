@@ -7,6 +7,7 @@ use Rattle.dataset.specs.Opened.{catalog_in}
 use Rattle.ardea.specs.Answers.{GivesCatalog, StopsBy, refusal_of}
 use Rattle.ardea.proofs.AnswerLemmas.{StopsBy-weaker}
 use Rattle.ardea.proofs.EndLemmas.{GivesCatalog-same, IsReady, ends_add, ends_dataset, ends_done, ends_table, file_asked, store_asked}
+use Rattle.ardea.proofs.LookLemmas.{load_looks, load_looks_all}
 use Rattle.ardea.proofs.load.Goals as goal
 
 pub returns-in_err-columns-clause-ends : goal.returns-in_err-columns-clause-ends
@@ -80,3 +81,13 @@ returns-clause-ends g c =
     (g.S.Store.files c.dataset_of.new.store) (g.S.Store.files c.add.new.store))
     c.in_ok-dataset.ensures.path c.in_ok-add.ensures.files) in
     ends_done c.args.load.now _ files _ c.in_ok-columns.columns catalog c.rows.result ready c.in_ok-add.ensures.accepts c.rows.ensures put
+
+pub returns-in_err-dataset-clause-reads : goal.returns-in_err-dataset-clause-reads
+returns-in_err-dataset-clause-reads g c = load_looks c.args.load.now _ _ _ c.table_of.ensures.reads c.dataset_of.ensures.reads
+
+pub returns-in_err-add-clause-reads : goal.returns-in_err-add-clause-reads
+returns-in_err-add-clause-reads g c =
+    load_looks_all c.args.load.now _ _ _ _ c.table_of.ensures.reads c.dataset_of.ensures.reads c.add.ensures.reads
+
+pub returns-clause-reads : goal.returns-clause-reads
+returns-clause-reads g c = load_looks_all c.args.load.now _ _ _ _ c.table_of.ensures.reads c.dataset_of.ensures.reads c.add.ensures.reads

@@ -5,6 +5,7 @@ use Rattle.commands.specs.Command.{command_of, command_outcome}
 use Rattle.commands.proofs.PrintLemmas.{quiet_leaves, quiet_replies}
 use Rattle.fastbit_tool.specs.Requests.{Of, OfSession, asked_of, outcome}
 use Rattle.fastbit_tool.proofs.CompleteLemmas.{call_completes, memory_completes}
+use Rattle.fastbit_tool.proofs.LookLemmas.{quiet_reads}
 use Rattle.fastbit_tool.proofs.RequestLemmas.{command_asked, quiet_keeps, session_asked}
 use Rattle.fastbit_tool.proofs.run.Goals as goal
 
@@ -60,3 +61,7 @@ pub returns-in-Err-clause-completeness : goal.returns-in-Err-clause-completeness
 returns-in-Err-clause-completeness g c =
     memory_completes (λ bytes w. outcome (asked_of (asked_by c.args.words.now)) bytes w) (g.I.Source.left c.args.input.now)
     (g.S.Store.files c.args.store.now) (g.I.Source.faults c.args.input.now) (g.S.Store.faults c.args.store.now) (g.K.Sink.faults c.args.out.now)
+
+pub returns-in-Err-clause-reads : goal.returns-in-Err-clause-reads
+returns-in-Err-clause-reads g c =
+    quiet_reads (asked_of (asked_by c.args.words.now)) (g.I.Source.left c.args.input.now) (g.S.Store.reads c.args.store.now)

@@ -1,6 +1,8 @@
 use Rattle.std.proofs.Common.{◌≡◌, ◌+◌, ◌-◌, ◌≤◌, ℕ, List, Option, length}
 use Rattle.fb_outside.specs.Files.{Files}
+use Rattle.fb_outside.specs.Reads.{AddsReads, Look}
 use Rattle.statuses.specs.declared.Status.{Status}
+use Rattle.fastbit_tool.specs.Looks.{LinesRead}
 use Rattle.fastbit_tool.specs.Session.{LinesRun, lines_from, lines_of}
 use Rattle.fastbit_tool.proofs.sessions.run_lines.Given as goal
 
@@ -12,6 +14,8 @@ invariant-loop-at g l = record {
   unread : g.I.Source.faults l.input ≡ g.I.Source.faults l.fn.input;
   stored : g.S.Store.faults l.store ≡ g.S.Store.faults l.fn.store;
   printed : g.K.Sink.faults l.out ≡ g.K.Sink.faults l.fn.out;
+  reads : (new : Option (List Look)) → AddsReads (g.S.Store.reads l.store) new (LinesRead (lines_from l.text l.at))
+      → AddsReads (g.S.Store.reads l.fn.store) new (LinesRead (lines_of l.text));
   rest : (new : Option Files) (now : Option (List ℕ)) (status : Status)
       → LinesRun (lines_from l.text l.at) (g.I.Source.left l.fn.input) (g.S.Store.files l.store) new (g.K.Sink.written l.out) now status
       → LinesRun (lines_of l.text) (g.I.Source.left l.fn.input) (g.S.Store.files l.fn.store) new (g.K.Sink.written l.fn.out) now status;

@@ -1,6 +1,7 @@
 use Rattle.std.proofs.Common.{◌≡◌, refl, sym, ◌∙◌, arith}
 use Rattle.fastbit_tool.specs.Session.{lines_of}
 use Rattle.fastbit_tool.proofs.LinesLemmas.{lines_unread}
+use Rattle.fastbit_tool.proofs.LookLemmas.{no_lines_read}
 use Rattle.fastbit_tool.proofs.SessionLemmas.{session_long, session_ran}
 use Rattle.fastbit_tool.proofs.sessions.run_session.Goals as goal
 
@@ -29,3 +30,12 @@ returns-in-Err-TooLong-clause-ran g c =
     session_long (g.I.Source.left c.args.input.now) (g.I.Source.left c.read_input.new.input) (g.S.Store.files c.args.store.now)
     (g.K.Sink.written c.args.out.now) (g.K.Sink.written c.refuse.new.out) c.refuse.result c.too_long.result c.in-Err-TooLong.limit 65536
     (rw c.in-Err-TooLong.field-0-is at c.in-Err-TooLong.ensures.fault) c.too_long.ensures c.refuse.ensures.prints
+
+pub returns-in-Err-TooLong-clause-reads : goal.returns-in-Err-TooLong-clause-reads
+returns-in-Err-TooLong-clause-reads g c = no_lines_read (g.I.Source.left c.args.input.now) (g.S.Store.reads c.args.store.now) (g.S.Store.reads c.args.store.now) refl
+
+pub returns-in-Err-ReadFault-clause-reads : goal.returns-in-Err-ReadFault-clause-reads
+returns-in-Err-ReadFault-clause-reads g c = no_lines_read (g.I.Source.left c.args.input.now) (g.S.Store.reads c.args.store.now) (g.S.Store.reads c.args.store.now) refl
+
+pub returns-in-Err-OutOfMemory-clause-reads : goal.returns-in-Err-OutOfMemory-clause-reads
+returns-in-Err-OutOfMemory-clause-reads g c = no_lines_read (g.I.Source.left c.args.input.now) (g.S.Store.reads c.args.store.now) (g.S.Store.reads c.args.store.now) refl

@@ -1,4 +1,6 @@
-use Rattle.std.proofs.Common.{◌≡◌, Result, Err, subst, ap, sym, ◌∙◌}
+use Rattle.std.proofs.Common.{◌≡◌, Result, Ok, Err, subst, ap, sym, ◌∙◌}
+use Rattle.ibis.specs.Query.{read_query}
+use Rattle.ibis.proofs.PartLemmas.{asked_looks, text_looks}
 use Rattle.ibis.proofs.WorldLemmas.{count_comes, counts_records, name_stops, opening_stops, text_stops}
 use Rattle.ibis.proofs.StepLemmas.{stops_where}
 use Rattle.ibis.proofs.counting.count.Goals as goal
@@ -37,3 +39,19 @@ returns-clause-gives g c =
     rw c.bad_query-in-Err-WrongType.ensures
     (name_stops c.args.dir.now c.args.query.now c.in-Ok.text.now _ c.in-Ok-below_of.below (c.in-Ok.ensures.cases.0 ∙ c.bytes.ensures)
     c.in-Ok-below_of.ensures c.in-Ok-opened.dataset c.in-Ok-opened.ensures.finds _ (rw c.in-Err-WrongType.field-0-is at c.in-Err-WrongType.ensures))
+
+pub returns-in-Err-opened-clause-reads : goal.returns-in-Err-opened-clause-reads
+returns-in-Err-opened-clause-reads g c = text_looks c.args.dir.now c.args.query.now _ _ c.opened.ensures.reads
+
+pub returns-in-Err-Unknown-clause-reads : goal.returns-in-Err-Unknown-clause-reads
+returns-in-Err-Unknown-clause-reads g c = text_looks c.args.dir.now c.args.query.now _ _ c.opened.ensures.reads
+
+pub returns-clause-reads : goal.returns-clause-reads
+returns-clause-reads g c = text_looks c.args.dir.now c.args.query.now _ _ c.opened.ensures.reads
+
+pub returns-in-Ok-resolve-clause-reads : goal.returns-in-Ok-resolve-clause-reads
+returns-in-Ok-resolve-clause-reads g c =
+    let text : c.in-Ok.text.now ≡ c.args.query.now = c.in-Ok.ensures.cases.0 ∙ c.bytes.ensures in
+    let asks : read_query c.args.query.now ≡ Ok c.in-Ok-below_of.below = ap read_query (sym text) ∙ c.in-Ok-below_of.ensures in
+    asked_looks c.args.dir.now c.args.query.now c.in-Ok-opened.dataset.dir c.in-Ok-resolve.column.now.name c.in-Ok-below_of.below _ _ _ asks
+    c.in-Ok-opened.ensures.path c.in-Ok-resolve.ensures.named c.opened.ensures.reads c.count_parts.ensures.reads

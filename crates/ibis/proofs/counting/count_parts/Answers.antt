@@ -3,6 +3,7 @@ use Rattle.std.specs.List.{slice_get}
 use Rattle.std.proofs.lemmas.List.{length-map, take_all}
 use Rattle.std.proofs.lemmas.Option.{slice_get_read}
 use Rattle.fb_outside.specs.Files.{Files}
+use Rattle.fb_outside.proofs.ReadLemmas.{AddsOnly-trans}
 use Rattle.part_meta.specs.declared.part.PartMeta.{PartMeta}
 use Rattle.ibis.specs.Rows.{cells_in_parts, passing}
 use Rattle.ibis.proofs.PartLemmas.{all_parts, next_part, part_at}
@@ -15,6 +16,7 @@ loop-part-preserved g c =
     record {
       unfailed = (rw c.in_ok-hits.was at c.count_part.ensures.cause).told (λ e. cc) ∙ c.loop-part.invariant.unfailed;
       kept = c.count_part.ensures.files ∙ c.loop-part.invariant.kept;
+      reads = AddsOnly-trans _ _ _ _ c.loop-part.invariant.reads c.count_part.ensures.reads;
       few = omega (arith, c.loop-part.invariant.few, c.in_ok-hits.ensures.few, at.0);
       counts = λ m col parts told has.
           next_part m c.args.dataset.now c.args.column.now col parts c.args.below.now.limit c.loop-part.part-index c.part-item.result c.loop-part.hits c.in_ok-hits.field-0
@@ -29,3 +31,6 @@ returns-clause-counts g c m col parts told has =
     (take_all c.loop-part.part-index parts
     (all_parts m c.args.dataset.now c.args.column.now col parts c.loop-part.part-index has
     (omega (arith, c.loop-part-test.false, ap length c.as_slice-part-items.ensures))))
+
+pub returns-in_err-hits-clause-reads : goal.returns-in_err-hits-clause-reads
+returns-in_err-hits-clause-reads g c = AddsOnly-trans _ _ _ _ c.loop-part.invariant.reads c.count_part.ensures.reads

@@ -1,6 +1,7 @@
 use Rattle.std.proofs.Common.{◌≡◌, ℤ, ◌∷◌, ◌++◌, Option, length, take, drop, map, refl, ap, sym, subst, ◌∙◌, arith}
 use Rattle.std.proofs.lemmas.List.{length-append, length-drop, length-take}
 use Rattle.fb_outside.specs.Files.{Files}
+use Rattle.fb_outside.proofs.ReadLemmas.{AddsOnly-same, AddsOnly-trans}
 use Rattle.world.specs.PartFiles.{number_of}
 use Rattle.ibis.specs.Rows.{HasValues}
 use Rattle.ibis.specs.Runs.{Rise, from_run, in_runs, rows_of_runs}
@@ -13,6 +14,7 @@ loop-rest-init g c =
     record {
       unfailed = refl;
       kept = refl;
+      reads = AddsOnly-same _ _ _ refl;
       room = refl;
       rise = start_rises c.args.column.now.mask c.row_runs-runs.result.runs _ c.args.column.now.rows c.row_runs-runs.ensures.runs c.requires.mask same;
       few = start_few c.args.column.now.mask c.row_runs-runs.result.runs _ c.args.column.now.rows c.row_runs-runs.ensures.runs c.requires.mask same;
@@ -33,6 +35,7 @@ loop-rest-preserved g c =
     record {
       unfailed = (rw c.in_ok-read_block.was at c.read_block.ensures.cause).told (λ e. cc) ∙ c.loop-rest.invariant.unfailed;
       kept = c.read_block.ensures.files ∙ c.loop-rest.invariant.kept;
+      reads = AddsOnly-trans _ _ _ _ c.loop-rest.invariant.reads c.read_block.ensures.reads;
       room = omega (arith, length-append {A = ℤ}, length-drop {A = ℤ}, read, c.loop-rest.invariant.room, c.block_rows-rows.ensures.few);
       rise = rise_lower 0 c.in-Some.first rows _ (omega arith) (c.count_block-more.ensures.rise rows begun);
       few = omega (arith, c.count_block-more.ensures.few, c.loop-rest.invariant.few, ap rows_of_runs was);
@@ -43,3 +46,6 @@ loop-rest-preserved g c =
           let block = same ∙ numbers ∙ ap (λ k. take k (drop c.in-Some.first (map number_of cells))) (sym (ap length same ∙ read)) in
           omega (arith, c.count_block-more.ensures.counts (map number_of cells) block, ap (in_runs c.args.below.now.limit (map number_of cells)) was, c.loop-rest.invariant.counts cells has);
     }
+
+pub returns-in_err-read_block-clause-reads : goal.returns-in_err-read_block-clause-reads
+returns-in_err-read_block-clause-reads g c = AddsOnly-trans _ _ _ _ c.loop-rest.invariant.reads c.read_block.ensures.reads

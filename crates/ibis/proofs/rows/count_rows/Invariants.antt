@@ -1,5 +1,6 @@
 use Rattle.std.proofs.Common.{◌≡◌, ◌+◌, ◌≤◌, List, length, map}
 use Rattle.fb_outside.specs.Files.{SameFiles}
+use Rattle.fb_outside.specs.Reads.{AddsOnly}
 use Rattle.fb_types.specs.declared.cells.Cell.{Cell}
 use Rattle.world.specs.PartFiles.{number_of}
 use Rattle.ibis.specs.Rows.{HasCells, passing}
@@ -10,6 +11,7 @@ abbrev pub invariant-loop-rest : goal.invariant-loop-rest
 invariant-loop-rest g l = record {
   unfailed : g.S.Store.faults l.store ≡ g.S.Store.faults l.fn.store;
   kept : SameFiles (g.S.Store.files l.fn.store) (g.S.Store.files l.store);
+  reads : AddsOnly (λ look. look.name ≡ l.column.name) (g.S.Store.reads l.fn.store) (g.S.Store.reads l.store);
   room : length l.block ≡ 4096;
   rise : Rise 0 l.column.rows (from_run l.rest l.runs.runs);
   few : l.hits + rows_of_runs (from_run l.rest l.runs.runs) ≤ l.column.rows;

@@ -1,0 +1,6 @@
+use Rattle.std.proofs.Common.{◌≡◌, map, take}
+use Rattle.index_build.specs.Index.{edge_of}
+use Rattle.index_build.proofs.writing.edges_of.Given as goal
+
+abbrev pub invariant-loop-bin : goal.invariant-loop-bin
+invariant-loop-bin l = l.edges.items ≡ map edge_of (take l.bin-index l.bins)

@@ -1,0 +1,86 @@
+-- The index of a column: its bins by the keys that the binning says, their bitmaps, and the bytes of its file.
+use Rattle.std.specs.Prelude.{◌≡◌, ℕ, ℤ, Bool, List, ⊤, Option, Some, None, IsSome, length, map, take}
+use Rattle.fb_outside.specs.Files.{Files, told_at}
+use Rattle.column_file.specs.declared.column.ColumnRef.{ColumnRef}
+use Rattle.column_file.specs.Values.{ValueFits, values_bytes}
+use Rattle.std.specs.List.{All}
+use Rattle.index_spec.specs.Counts.{bitmap_count}
+use Rattle.index_spec.specs.declared.spec.EncodingSpec.{EncodingSpec}
+use Rattle.index_spec.specs.declared.spec.Spec.{Spec}
+use Rattle.index_file.specs.declared.edge.Edge.{Edge}
+use Rattle.index_file.specs.IndexFile.{index_bytes}
+use Rattle.binning.specs.Bins.{bins_of, cells, present}
+use Rattle.binning.specs.Encodings.{nested_bins, vectors}
+use Rattle.binning.specs.Keys.{IsKeying, keying_of}
+use Rattle.binning.specs.Members.{bitmaps_of}
+use Rattle.binning.specs.declared.gathering.Bin.{Bin}
+use Rattle.binning.specs.declared.rules.Keying.{Keying}
+use Rattle.index_build.specs.declared.fault.BuildFault.{BuildFault}
+use Rattle.index_build.specs.declared.fault.BuildFault.TheVariants.{Damaged, TooManyBins, Store, OutOfMemory}
+use Rattle.index_build.specs.declared.reading.ReadFault.{ReadFault}
+use Rattle.index_build.specs.declared.reading.ReadFault.TheVariants.{Short}
+use Rattle.index_build.specs.declared.reading.ReadFault.TheVariants as reading
+
+-- the bins of the numbers of the rows that have one
+abbrev pub bins_by : Spec → List Bool → List ℤ → List Bin
+bins_by spec mask numbers = bins_of (keying_of spec.binning (present (cells mask numbers))) (cells mask numbers)
+
+abbrev pub edge_of : Bin → Edge
+edge_of bin = record { least = bin.least; greatest = bin.greatest }
+
+abbrev pub bitmaps_by : Spec → List Bool → List ℤ → List (List Bool)
+bitmaps_by spec mask numbers = bitmaps_of spec.encoding (length mask) (vectors (bins_by spec mask numbers))
+
+-- the file of a column with these rows and numbers
+unfoldable pub index_of : Spec → List Bool → List ℤ → List ℕ
+index_of spec mask numbers =
+    index_bytes (length mask) spec (map edge_of (bins_by spec mask numbers)) (bitmaps_by spec mask numbers)
+
+-- ---- what is read of a column
+
+-- the values file of a column has these numbers, one a row
+pub record HasNumbers (files : Option Files) (column : ColumnRef) (numbers : List ℤ) : Type 0 where
+  pub told : told_at files column.name ≡ Some (values_bytes column.ty numbers)
+  pub fit : All (λ number. ValueFits number column.ty) numbers
+  pub rows : length numbers ≡ column.rows
+
+-- so many rows from the first on have these numbers, which are those of the file where it is told
+pub record AreRead (files : Option Files) (column : ColumnRef) (count : ℕ) (numbers : List ℤ) : Type 0 where
+  pub number : length numbers ≡ count
+  pub fit : All (λ number. ValueFits number column.ty) numbers
+  pub told : (all : List ℤ) → HasNumbers files column all → numbers ≡ take count all
+
+-- the bins of what is read, by the keys that it has
+pub record AreBinsOf (files : Option Files) (column : ColumnRef) (keys : List ℤ → Keying) (bins : List Bin) : Type 0 where
+  pub numbers : List ℤ
+  pub read : AreRead files column column.rows numbers
+  pub are : bins ≡ bins_of (keys numbers) (cells column.mask numbers)
+
+-- the keys that a specification says over a column
+abbrev pub keys_by : Spec → List Bool → List ℤ → Keying
+keys_by spec mask numbers = keying_of spec.binning (present (cells mask numbers))
+
+-- ---- what is written
+
+-- the bins of a column of so many rows, by some keys
+pub record AreOfColumn (rows : ℕ) (bins : List Bin) : Type 0 where
+  pub keys : Keying
+  pub column : List (Option ℤ)
+  pub kept : IsKeying keys
+  pub long : length column ≡ rows
+  pub are : bins ≡ bins_of keys column
+
+-- why n bins aren't written: too many are told exactly where the encoding has no bitmaps of so many
+abbrev pub Tells : EncodingSpec → ℕ → BuildFault → Type 0
+Tells encoding n (TooManyBins bins limit) = (bitmap_count encoding n ≡ None) × (bins ≡ nested_bins encoding n) × (limit ≡ 1024)
+Tells encoding n Store = IsSome (bitmap_count encoding n)
+Tells encoding n OutOfMemory = ⊤
+Tells encoding n (Damaged file kind want have) = ⊥
+
+-- ---- what ends the reading of a column
+
+-- a fault that may come over a file of the right length
+abbrev pub IsOfOutside : ReadFault → Type 0
+IsOfOutside (Short want have) = ⊥
+IsOfOutside reading.Store = ⊤
+IsOfOutside reading.OutOfMemory = ⊤

@@ -4,3 +4,4 @@ pub mod LawFacts
 pub mod LoadFacts
 pub mod RecordsOfText
 pub mod TakenBytes
+pub mod FieldGrammarFacts

@@ -4,3 +4,4 @@ pub mod Loaded
 pub mod Answers
 pub mod Law
 pub mod RowsLeft
+pub mod FieldGrammar

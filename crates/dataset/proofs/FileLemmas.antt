@@ -20,7 +20,8 @@ use Rattle.fb_types.specs.declared.cells.Cell.{Cell}
 use Rattle.fb_types.specs.declared.types.ColType.{ColType}
 use Rattle.fb_types.specs.declared.types.ColType.TheVariants.{Byte, UByte, Short, UShort, Int, UInt, Long, ULong, Category, Text}
 use Rattle.fb_types.specs.Types.{ends_of}
-use Rattle.world.specs.PartFiles.{category_files, column_cells, column_files, columns_files, files_by_type, text_files, whole_files}
+use Rattle.world.specs.PartFiles.{category_files, column_files, columns_files, files_by_type, text_files, whole_files}
+use Rattle.world.specs.Cells.{column_cells}
 use Rattle.fb_types.specs.Table.{Table}
 use Rattle.part_meta.specs.declared.part.PartMeta.{PartMeta}
 use Rattle.part_meta.specs.FileNames.{part_name}

@@ -18,10 +18,11 @@ use Rattle.column_file.specs.declared.fault.ColFault.TheVariants as column_
 use Rattle.column_file.specs.Opening.{column_in, mask_in}
 use Rattle.column_file.specs.Values.{ValueFits, values_bytes, width_in}
 use Rattle.part_meta.specs.declared.part.PartMeta.{PartMeta}
-use Rattle.world.specs.PartFiles.{column_cells, is_present, number_of, part_data}
+use Rattle.world.specs.PartFiles.{part_data}
+use Rattle.world.specs.Cells.{column_cells, is_present, number_of}
 use Rattle.world.specs.World.{Partition}
 use Rattle.dataset.specs.Damage.{IsColumnDamaged}
-use Rattle.dataset.specs.InWorld.{stored_numbers}
+use Rattle.world.specs.Cells.{stored_numbers}
 use Rattle.dataset.specs.Opened.{IsDataset, IsPartOf, IsTextLook}
 use Rattle.std.proofs.lemmas.Option.{slice_get_read}
 use Rattle.dataset.specs.PartColumns.{IfDamaged, IsOpened, OpensColumn, column_at, mask_file, values_file}

@@ -21,7 +21,8 @@ use Rattle.where_grammar.specs.Holds.{compares, holds, number_passes}
 use Rattle.answers.specs.Answers.{Answers}
 use Rattle.where_grammar.specs.Language.{refusal}
 use Rattle.where_grammar.proofs.Parts.{holds-one}
-use Rattle.world.specs.PartFiles.{column_cells, part_data}
+use Rattle.world.specs.PartFiles.{part_data}
+use Rattle.world.specs.Cells.{column_cells}
 use Rattle.world.specs.Stands.{Stands, StandsFor}
 use Rattle.world.specs.World.{Content, Partition, World, content_at, records_of}
 use Rattle.dataset.specs.Damage.{Damage, IsColumnDamaged}

@@ -26,7 +26,8 @@ use Rattle.index_build.specs.declared.fault.BuildFault.{BuildFault}
 use Rattle.index_build.specs.declared.fault.BuildFault.TheVariants.{Damaged, TooManyBins, Store, OutOfMemory}
 use Rattle.index_build.specs.declared.writing.Built.{Built}
 use Rattle.index_build.specs.Build.{IsColumnLook, IsShort, StopsColumn}
-use Rattle.index_build.specs.Index.{AreBinsOf, AreOfColumn, HasNumbers, bins_by, edge_of, index_of, keys_by}
+use Rattle.index_build.specs.Index.{AreBinsOf, AreOfColumn, HasNumbers}
+use Rattle.world.specs.IndexFiles.{bins_by, edge_of, index_of, keys_by}
 
 -- what was read of a column makes bins of a column
 pub read_bins : (files : Option Files) (column : ColumnRef) (spec : Spec) (bins : List Bin) → IsGivenBinning spec.binning → length column.mask ≡ column.rows

@@ -29,7 +29,8 @@ use Rattle.binning.specs.Order.{BinsRise}
 use Rattle.binning.specs.Members.{AreBins, bitmap, bitmaps_of}
 use Rattle.binning.specs.declared.gathering.Bin.{Bin}
 use Rattle.binning.specs.declared.rules.Keying.{Keying}
-use Rattle.index_build.specs.Index.{AreOfColumn, edge_of}
+use Rattle.index_build.specs.Index.{AreOfColumn}
+use Rattle.world.specs.IndexFiles.{edge_of}
 
 -- ---- there are at most as many bins as rows
 

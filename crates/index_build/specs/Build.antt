@@ -14,7 +14,8 @@ use Rattle.dataset.specs.declared.fault.PartFault.{PartFault}
 use Rattle.dataset.specs.declared.fault.PartFault.TheVariants as part
 use Rattle.index_build.specs.declared.fault.BuildFault.{BuildFault}
 use Rattle.index_build.specs.declared.fault.BuildFault.TheVariants.{Damaged, TooManyBins, Store, OutOfMemory}
-use Rattle.index_build.specs.Index.{HasNumbers, bins_by}
+use Rattle.index_build.specs.Index.{HasNumbers}
+use Rattle.world.specs.IndexFiles.{bins_by}
 
 abbrev pub fault_of_part : PartFault → BuildFault
 fault_of_part (part.Damaged file kind want have) = Damaged file kind want have

@@ -10,10 +10,11 @@ ghost use Rattle.fb_types.specs.Types.{width_of};
 ghost use Rattle.index_spec.specs.Language.{IsGiven};
 ghost use Rattle.part_meta.specs.FileNames.{index_name};
 ghost use Rattle.part_meta.specs.PartText.{most_rows};
-ghost use Rattle.world.specs.PartFiles.{is_present};
-ghost use Rattle.dataset.specs.InWorld.{HasNumbers, stored_numbers};
+ghost use Rattle.world.specs.Cells.{is_present, stored_numbers};
+ghost use Rattle.dataset.specs.InWorld.{HasNumbers};
 ghost use Rattle.index_build.specs.Build.{IsColumnLook, IsShort, StopsColumn, StopsIn, fault_of_part};
-ghost use Rattle.index_build.specs.Index.{HasNumbers as ReadsNumbers, index_of};
+ghost use Rattle.index_build.specs.Index.{HasNumbers as ReadsNumbers};
+ghost use Rattle.world.specs.IndexFiles.{index_of};
 
 use crate::fault::BuildFault;
 use crate::gathering::column_bins;

@@ -9,7 +9,8 @@ ghost use Rattle.index_spec.specs.Language.{IsGiven};
 ghost use Rattle.index_file.specs.IndexFile.{index_bytes};
 ghost use Rattle.binning.specs.Encodings.{vectors};
 ghost use Rattle.binning.specs.Members.{bitmaps_of};
-ghost use Rattle.index_build.specs.Index.{AreOfColumn, Tells, edge_of};
+ghost use Rattle.index_build.specs.Index.{AreOfColumn, Tells};
+ghost use Rattle.world.specs.IndexFiles.{edge_of};
 
 use crate::fault::BuildFault;
 use binning::{Bin, EncFault, Encoding};

@@ -32,7 +32,8 @@ use Rattle.dataset.specs.InWorld.{HasNumbers, IsColumnOf, IsDatasetOf}
 use Rattle.world.specs.Cells.{stored_numbers}
 use Rattle.dataset.specs.Opened.{OpensAs}
 use Rattle.dataset.proofs.FitLemmas.{cells_fit, stored_fit}
-use Rattle.dataset.proofs.ListLemmas.{All-at, All-left, All-right, Mapped, map-at}
+use Rattle.world.proofs.PlaceLemmas.{All-at}
+use Rattle.dataset.proofs.ListLemmas.{All-left, All-right, Mapped, map-at}
 use Rattle.dataset.proofs.WorldLemmas.{opened}
 
 -- ---- the files of a column among those of its part

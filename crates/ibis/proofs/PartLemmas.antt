@@ -30,7 +30,8 @@ use Rattle.dataset.specs.declared.content.Dataset.{Dataset}
 use Rattle.dataset.specs.declared.fault.DamageKind.TheVariants.{Length}
 use Rattle.dataset.specs.declared.fault.PartFault.{PartFault}
 use Rattle.dataset.specs.declared.fault.PartFault.TheVariants as part_
-use Rattle.dataset.proofs.ListLemmas.{All-at, map-at}
+use Rattle.world.proofs.PlaceLemmas.{All-at}
+use Rattle.dataset.proofs.ListLemmas.{map-at}
 use Rattle.statuses.specs.declared.stop.Unanswered.TheVariants.{Refused}
 use Rattle.ibis.specs.declared.rows.RowsFault.{RowsFault}
 use Rattle.ibis.specs.declared.rows.RowsFault.TheVariants.{Short, Store}

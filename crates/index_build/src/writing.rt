@@ -23,7 +23,7 @@ use std::sync::ledger::Ledger;
 use steps::Steps;
 use wah_words::Wah;
 
-/// What an index has.
+/// How many bins and bitmaps an index has.
 #[derive(Clone, Copy, Debug, PartialEq, Eq)]
 pub struct Built {
     pub bins: u32,
@@ -81,12 +81,11 @@ pub(crate) fn write_bins<S: Store, L: Ledger>(
     requires limit { rows ≤ most_bits }
     requires bins { AreOfColumn rows bins.now }
     ensures cause { HasCause (S.faults store.old) (S.faults store.new) (IsErrOf result BuildFault.Store) }
-    ensures ok { OnOk result (Puts (S.files store.old) (S.files store.new) name.now
-        (index_bytes rows spec.now (map edge_of bins.now) (bitmaps_of spec.now.encoding rows (vectors bins.now)))) }
-    ensures store { IsErrOf result BuildFault.Store → PutLeaves name.now
-        (index_bytes rows spec.now (map edge_of bins.now) (bitmaps_of spec.now.encoding rows (vectors bins.now))) (S.files store.old) (S.files store.new) }
+    ensures leaves { LeavesIndex spec.now.encoding (length bins.now) name.now
+        (index_bytes rows spec.now (map edge_of bins.now) (bitmaps_of spec.now.encoding rows (vectors bins.now)))
+        result (S.files store.old) (S.files store.new) }
     ensures refused { IfErr result (λ fault. fault ≢ BuildFault.Store → SameFiles (S.files store.old) (S.files store.new)) }
-    ensures stop { IfErr result (Tells spec.now.encoding (length bins.now)) }
+    ensures answer { AnswersOver spec.now.encoding (length bins.now) result }
     ensures reads { S.reads store.new ≡ S.reads store.old }
 {
     let bitmaps = bitmaps_by(alloc, spec, bins, rows, steps)?;

@@ -12,3 +12,6 @@ pub use build_law::{the_rows_of_a_world, the_store_after_a_build, the_world_afte
 pub use building::build;
 pub use fault::BuildFault;
 pub use writing::Built;
+
+#[cfg(test)]
+mod tests;

@@ -1,6 +1,8 @@
 -- A dataset of which a part has one index more, or another.
 use Rattle.std.proofs.Common.{◌≡◌, ◌≢◌, ◌<◌, ◌+◌, ℕ, Bool, true, false, if◌then◌else◌, ◌==◌, List, [], ◌∷◌, ◌++◌, All, length, map, Option, Some, None, option_map, refl, sym, ap, ◌∙◌, subst, arith, get_or}
-use Rattle.std.specs.FinMap.{get, insert}
+use Rattle.std.specs.Cmp.Lexicographic.{slice_cmp}
+use Rattle.std.specs.FinMap.{FinMap, get, insert}
+use Rattle.std.specs.Ordering.{nat_cmp}
 use Rattle.std.specs.List.{AllPairs, flat_map, slice_get}
 use Rattle.std.proofs.lemmas.Bool.Decides.{Decides-eqb}
 use Rattle.std.proofs.lemmas.List.Elements.{All-head, All-map, All-tail}
@@ -103,12 +105,15 @@ none-indexed number col spec (part ∷ parts) none =
 abbrev content_with : Content → List Partition → Content
 content_with content parts = record content { parts = parts }
 
+abbrev world_with : World → FinMap (slice_cmp nat_cmp) Content → World
+world_with world datasets = record world { datasets = datasets }
+
 pub nothing-built : (world : World) (path : List ℕ) (number col : ℕ) (spec : Spec) (content : Content) → content_at world path ≡ Some content
     → All (λ part. part.number ≢ number) content.parts → after_one world (Builds path number col spec) ≡ world
 nothing-built world path number col spec content there none =
     ap (after_build world path number col spec) there
     ∙ ap (λ (parts : List Partition). with_content world path (content_with content parts)) (none-indexed number col spec content.parts none)
-    ∙ ap (λ datasets. let w : World = record { datasets = datasets; inputs = world.inputs } in w) (insert-there world.datasets path content there)
+    ∙ ap (world_with world) (insert-there world.datasets path content there)
 
 -- ---- it is a dataset still
 

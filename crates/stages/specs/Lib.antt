@@ -1,0 +1,4 @@
+pub mod Meaning
+pub mod Looks
+pub mod Answer
+pub mod Faults

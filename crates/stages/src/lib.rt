@@ -6,7 +6,11 @@
 #![tactic(auto)]
 
 mod conditions;
+mod first;
+mod gathering;
 mod laws;
+mod lists;
+mod second;
 mod walk;
 
 pub use conditions::{Conditions, Settled};

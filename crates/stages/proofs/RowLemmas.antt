@@ -1,0 +1,34 @@
+-- Vectors of what is said of each row: their rows, how many there are, and operations on two.
+use Rattle.std.proofs.Common.{◌≡◌, ℕ, zero, suc, ◌+◌, Bool, true, false, cond, List, [], ◌∷◌, length, map, refl, sym, ap, ◌∙◌}
+use Rattle.std.specs.List.{count_by, filter, range_with_len}
+use Rattle.std.proofs.lemmas.List.Sums.{length-filter, sum_by-cons}
+use Rattle.wah_iter.specs.Rows.{rows_from}
+use Rattle.wah_logic.specs.Logic.{each_place}
+
+pub each_place-map : {X : Type 0} (op : Bool → Bool → Bool) (f g : X → Bool) (xs : List X) → each_place op (map f xs) (map g xs) ≡ map (λ x. op (f x) (g x)) xs
+unfolding each_place
+each_place-map op f g [] = refl
+each_place-map op f g (x ∷ xs) = ap (λ l. op (f x) (g x) ∷ l) (each_place-map op f g xs)
+
+pub map-map : {X Y Z : Type 0} (f : Y → Z) (g : X → Y) (xs : List X) → map f (map g xs) ≡ map (λ x. f (g x)) xs
+map-map f g [] = refl
+map-map f g (x ∷ xs) = ap (λ l. f (g x) ∷ l) (map-map f g xs)
+
+here : (b : Bool) (place : ℕ) (v : List Bool) → rows_from place (b ∷ v) ≡ cond b (place ∷ rows_from (place + 1) v) (rows_from (place + 1) v)
+unfolding rows_from
+here true place v = refl
+here false place v = refl
+
+pub rows_from-map : (p : ℕ → Bool) (first n : ℕ) → rows_from first (map p (range_with_len first n)) ≡ filter p (range_with_len first n)
+unfolding rows_from
+rows_from-map p first zero = refl
+rows_from-map p first (suc n) =
+    here (p first) first (map p (range_with_len (first + 1) n)) ∙ ap (λ l. cond (p first) (first ∷ l) l) (rows_from-map p (first + 1) n)
+
+pub count_by-map : {X : Type 0} (p : X → Bool) (xs : List X) → count_by (λ b. b) (map p xs) ≡ count_by p xs
+count_by-map p [] = refl
+count_by-map p (x ∷ xs) =
+    sum_by-cons (λ b. cond b 1 0) (p x) (map p xs) ∙ ap (λ n. cond (p x) 1 0 + n) (count_by-map p xs) ∙ sym (sum_by-cons (λ y. cond (p y) 1 0) x xs)
+
+pub count_by-filter : {X : Type 0} (p : X → Bool) (xs : List X) → count_by (λ b. b) (map p xs) ≡ length (filter p xs)
+count_by-filter p xs = count_by-map p xs ∙ sym (length-filter p xs)

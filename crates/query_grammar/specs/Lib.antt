@@ -1,0 +1,6 @@
+pub mod Grammar
+pub mod Language
+pub mod Limits
+pub mod Picks
+pub mod Reading
+pub mod Refusals

@@ -1,9 +1,9 @@
 -- An index is built of an opened column, and its reads and files are the column's.
-use Rattle.std.proofs.Common.{◌≡◌, ◌≢◌, inl, inr, ◌*◌, ◌<◌, ◌≤◌, ℕ, ℤ, Bool, List, Option, Some, Result, Ok, Err, length, map, take, refl, sym, ap, subst, ◌∙◌, arith}
+use Rattle.std.proofs.Common.{◌≡◌, ◌≢◌, inl, inr, ◌*◌, ◌<◌, ◌≤◌, ℕ, ℤ, Bool, List, Option, Some, Result, Ok, Err, IsSome, length, map, take, refl, sym, ap, subst, ◌∙◌, arith}
 use Rattle.std.specs.Prelude.{IfErr, IfSome}
 use Rattle.std.specs.List.{All}
 use Rattle.std.proofs.Math.Seq.{take-length}
-use Rattle.fb_outside.specs.Files.{ChangesOnly, Files, SameFiles, file_at, told_at}
+use Rattle.fb_outside.specs.Files.{ChangesOnly, Files, PutLeaves, SameFiles, file_at, told_at}
 use Rattle.fb_outside.specs.Reads.{AddsOnly, IsWholeLook, Look}
 use Rattle.fb_outside.proofs.ReadLemmas.{AddsOnly-trans, AddsOnly-weaken}
 use Rattle.fb_types.specs.declared.schemas.Column.{Column}
@@ -36,7 +36,7 @@ use Rattle.index_build.specs.declared.fault.BuildFault.{BuildFault}
 use Rattle.index_build.specs.declared.fault.BuildFault.TheVariants.{Damaged, TooManyBins, Store, OutOfMemory}
 use Rattle.index_build.specs.declared.writing.Built.{Built}
 use Rattle.index_build.specs.Build.{AnswersOver, HasRows, IsColumnLook, IsShort, LeavesIndex, StopsColumn, bin_count, fault_of_part}
-use Rattle.index_build.specs.Index.{AreBinsOf, AreOfColumn, HasNumbers}
+use Rattle.index_build.specs.Index.{AreBinsOf, AreOfColumn, HasNumbers, Tells}
 use Rattle.world.specs.IndexFiles.{bins_by, edge_of, index_of, keys_by}
 
 -- what was read of a column makes bins of a column
@@ -111,6 +111,17 @@ stops_written (Err (TooManyBins bins' limit)) files column spec bins told h =
     (h.2, λ numbers has. ap (λ (bs : List Bin). bitmap_count spec.encoding (length bs)) (sym (told numbers has)) ∙ h.0)
 stops_written (Err Store) files column spec bins told h = tt
 stops_written (Err OutOfMemory) files column spec bins told h = tt
+
+pub answers_told : (encoding : EncodingSpec) (n : ℕ) (fault : BuildFault) → Tells encoding n fault → AnswersOver encoding n (Err fault)
+answers_told encoding n (Damaged file kind want have) h = h
+answers_told encoding n (TooManyBins bins limit) h = h
+answers_told encoding n Store h = tt
+answers_told encoding n OutOfMemory h = tt
+
+pub leaves_put : (encoding : EncodingSpec) (n : ℕ) (name bytes : List ℕ) (fault : BuildFault) (old new : Option Files) → PutLeaves name bytes old new
+    → IsSome (bitmap_count encoding n) → LeavesIndex encoding n name bytes (Err fault) old new
+leaves_put encoding n name bytes fault old new (inl same) some = inl same
+leaves_put encoding n name bytes fault old new (inr put) some = inr (put, some)
 
 -- what stopped before anything was written
 pub leaves_stopped : (r : Result Built BuildFault) (encoding : EncodingSpec) (n : ℕ) (name bytes : List ℕ) (old new : Option Files)

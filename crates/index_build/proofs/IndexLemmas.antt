@@ -161,6 +161,14 @@ module _ (rows : ℕ) (bins : List Bin) (of : AreOfColumn rows bins) where
   ordered : first_out_of_order (map edge_of bins) ≡ None
   ordered = rw of.are (of_order (map edge_of (bins_of of.keys of.column)) (in_order (bins_of of.keys of.column) (bins_rise of.keys of.column of.kept)))
 
+  -- they have as many bitmaps as their encoding has of them
+  pub of_column_counted : (e : EncodingSpec) → IsSome (bitmap_count e (length bins))
+      → bitmap_count e (length bins) ≡ Some (length (bitmaps_of e rows (vectors bins)))
+  of_column_counted e some =
+      let same : length (vectors bins) ≡ length bins = length-map bins (λ b. b.rows) in
+      subst (λ (n : ℕ). bitmap_count e n ≡ Some (length (bitmaps_of e rows (vectors bins)))) same
+      (bitmaps_counted e rows (vectors bins) (subst (λ (n : ℕ). IsSome (bitmap_count e n)) (sym same) some))
+
   -- the bins and their bitmaps are an index
   pub of_column_index : (spec : Spec) (edges : List Edge) (bitmaps : List (List Bool)) → IsGiven spec → rows ≤ most_bits
       → IsSome (bitmap_count spec.encoding (length bins)) → edges ≡ map edge_of bins → bitmaps ≡ bitmaps_of spec.encoding rows (vectors bins)
@@ -168,10 +176,7 @@ module _ (rows : ℕ) (bins : List Bin) (of : AreOfColumn rows bins) where
   of_column_index spec edges bitmaps given few some edges_are bitmaps_are =
       let e = spec.encoding in
       let all = bitmaps_of e rows (vectors bins) in
-      let same : length (vectors bins) ≡ length bins = length-map bins (λ b. b.rows) in
-      let counted : bitmap_count e (length bins) ≡ Some (length all) =
-      subst (λ (n : ℕ). bitmap_count e n ≡ Some (length all)) same
-      (bitmaps_counted e rows (vectors bins) (subst (λ (n : ℕ). IsSome (bitmap_count e n)) (sym same) some)) in
+      let counted : bitmap_count e (length bins) ≡ Some (length all) = of_column_counted e some in
       let bound : length all ≤ 2 * length bins + 1 = few_bitmaps e (length bins) (length all) (HasGroups-given e given.1) counted in
       let long : All (λ v. length v ≡ rows) (vectors bins) = of_column_apart.long in
       rw (edges_are, bitmaps_are) (record {

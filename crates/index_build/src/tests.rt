@@ -4,7 +4,6 @@ ghost use Rattle.fb_outside.specs.Names.{IsPath};
 use crate::{BuildFault, Built, build};
 use dataset::open_dataset;
 use fb_outside::{FileName, MemStore, Store};
-
 use index_spec::{Binning, Coarse, EncodingSpec, Spec};
 use std::marker::Brand;
 use std::process::Abort;
@@ -92,9 +91,25 @@ fn built<R: Abort + AllocGlobal, L: Ledger>(
         encoding: EncodingSpec::Equality,
     };
     let mut steps = Steps::<L>::new(blank);
-    let first = build(rt.alloc(), store, &dataset, part, column, &grouped, &mut steps)?;
+    let first = build(
+        rt.alloc(),
+        store,
+        &dataset,
+        part,
+        column,
+        &grouped,
+        &mut steps,
+    )?;
     assert!(rt; first.bins == 2 && first.bitmaps == 3);
-    build(rt.alloc(), store, &dataset, part, column, &plain, &mut steps)
+    build(
+        rt.alloc(),
+        store,
+        &dataset,
+        part,
+        column,
+        &plain,
+        &mut steps,
+    )
 }
 
 #[test]

@@ -36,6 +36,7 @@ use Rattle.index_build.specs.declared.fault.BuildFault.{BuildFault}
 use Rattle.index_build.specs.declared.fault.BuildFault.TheVariants.{Damaged, TooManyBins, Store, OutOfMemory}
 use Rattle.index_build.specs.declared.writing.Built.{Built}
 use Rattle.index_build.specs.Build.{AnswersOver, HasRows, IsColumnLook, IsShort, LeavesIndex, StopsColumn, bin_count, fault_of_part}
+use Rattle.index_build.proofs.IndexLemmas.{over_limit}
 use Rattle.index_build.specs.Index.{AreBinsOf, AreOfColumn, HasNumbers, Tells}
 use Rattle.world.specs.IndexFiles.{bins_by, edge_of, index_of, keys_by}
 
@@ -107,8 +108,11 @@ pub stops_written : (r : Result Built BuildFault) (files : Option Files) (column
     → AnswersOver spec.encoding (length bins) r → IfErr r (StopsColumn files column spec)
 stops_written (Ok built) files column spec bins told h = tt
 stops_written (Err (Damaged file kind want have)) files column spec bins told h = absurd h
-stops_written (Err (TooManyBins bins' limit)) files column spec bins told h =
-    (h.2, λ numbers has. ap (λ (bs : List Bin). bitmap_count spec.encoding (length bs)) (sym (told numbers has)) ∙ h.0)
+stops_written (Err (TooManyBins bins' limit)) files column spec bins told h = (
+  h.2,
+  subst (λ (n : ℕ). 1024 < n) (sym h.1) (over_limit spec.encoding (length bins) h.0),
+  λ numbers has. ap (λ (bs : List Bin). bitmap_count spec.encoding (length bs)) (sym (told numbers has)) ∙ h.0,
+)
 stops_written (Err Store) files column spec bins told h = tt
 stops_written (Err OutOfMemory) files column spec bins told h = tt
 
@@ -160,7 +164,7 @@ pub unopened_answers : (files : Option Files) (m : Files) (dataset : Dataset) (p
     → AnswersOver encoding n (Err (fault_of_part fault))
 unopened_answers files m dataset part column mask numbers encoding n (part.Damaged file kind want have) few told h has =
     let found = subst (λ (o : Option Files). IfSome o (λ told. OpensColumn told dataset part column (Err (part.Damaged file kind want have)))) told h in
-    let bad : Ok mask ≡ Err found.0 = sym (rows_open m dataset part column mask numbers few has) ∙ found.1.0 in absurd (cc)
+    let bad : Ok mask ≡ Err found.0 = sym (rows_open m dataset part column mask numbers few has) ∙ found.1 in absurd (cc)
 unopened_answers files m dataset part column mask numbers encoding n part.Store few told h has = tt
 unopened_answers files m dataset part column mask numbers encoding n part.OutOfMemory few told h has = tt
 

@@ -2,6 +2,7 @@
 use Rattle.std.proofs.Common.{◌≡◌, ◌+◌, ◌-◌, ◌*◌, ◌<◌, ◌≤◌, ◌^◌, ℕ, zero, suc, ℤ, Bool, true, false, cond, List, [], ◌∷◌, ◌++◌, Option, Some, None, IsSome, length, map, min, nat_lt, nat_eq, unwrap_or, option_map, int_lt, ◌<ℤ◌, refl, sym, ap, subst, ◌∙◌, arith}
 use Rattle.std.specs.Int.{div_ceil}
 use Rattle.std.specs.List.{All, AllByRecursion, filter_map, range_with_len}
+use Rattle.std.proofs.lemmas.Bool.Decides.{nat_tests}
 use Rattle.std.proofs.lemmas.Grind.{div_ceil_times}
 use Rattle.std.proofs.lemmas.List.{length-map}
 use Rattle.std.proofs.lemmas.List.FromFn.{length-range_with_len}
@@ -24,7 +25,7 @@ use Rattle.index_file.specs.declared.edge.Edge.{Edge}
 use Rattle.wah_words.specs.Limits.{most_bits}
 use Rattle.binning.specs.Bins.{bin_of, bins_of, cells, has_key, present}
 use Rattle.binning.specs.Keys.{key, put, rising}
-use Rattle.binning.specs.Encodings.{vectors}
+use Rattle.binning.specs.Encodings.{nested_bins, vectors}
 use Rattle.binning.specs.Order.{BinsRise}
 use Rattle.binning.specs.Members.{AreBins, bitmap, bitmaps_of}
 use Rattle.binning.specs.declared.gathering.Bin.{Bin}
@@ -125,6 +126,35 @@ few_bitmaps Equality n c groups h = omega (arith, coarse_few coarse.Equality n c
 few_bitmaps Range n c groups h = omega (arith, coarse_few coarse.Range n c h)
 few_bitmaps Interval n c groups h = omega (arith, coarse_few coarse.Interval n c h)
 few_bitmaps (TwoLevel level ncoarse) n c groups h = two_few level ncoarse n c groups h
+
+-- ---- too many
+
+over : (a b : Bool) (x : ℕ) → cond a None (cond b (Some 0) (Some x)) ≡ None → a ≡ true
+over true b x e = refl
+over false true x e = absurd (cc)
+over false false x e = absurd (cc)
+
+coarse_over : (level : Coarse) (n : ℕ) → coarse_count level n ≡ None → 1024 < n
+coarse_over coarse.Equality n e = absurd (cc)
+coarse_over coarse.Range n e =
+    let more : nat_lt 1024 n ≡ true = over (nat_lt 1024 n) (nat_eq n 0) (n - 1) e in
+    grind (arith, nat_tests)
+coarse_over coarse.Interval n e =
+    let more : nat_lt 1024 n ≡ true = over (nat_lt 1024 n) (nat_eq n 0) (n - div_ceil n 2 + 1) e in
+    grind (arith, nat_tests)
+
+levels_over : (b : Bool) (n : ℕ) (count : Option ℕ) → cond b (Some 0) (option_map (λ q. n + q) count) ≡ None → count ≡ None
+levels_over true n count e = absurd (cc)
+levels_over false n None e = refl
+levels_over false n (Some q) e = absurd (cc)
+
+-- where an encoding has no number of bitmaps, it stands on over 1,024 bins or groups
+pub over_limit : (e : EncodingSpec) (n : ℕ) → bitmap_count e n ≡ None → 1024 < nested_bins e n
+over_limit Equality n h = coarse_over coarse.Equality n h
+over_limit Range n h = coarse_over coarse.Range n h
+over_limit Interval n h = coarse_over coarse.Interval n h
+over_limit (TwoLevel level ncoarse) n h =
+    coarse_over level (groups_of n ncoarse) (levels_over (nat_eq n 0) n (coarse_count level (groups_of n ncoarse)) h)
 
 -- ---- the bins of a column
 

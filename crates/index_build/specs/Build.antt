@@ -76,7 +76,7 @@ abbrev pub StopsColumn : Option Files → ColumnRef → Spec → BuildFault → 
 StopsColumn files column spec (Damaged file kind want have) =
     (file ≡ column.name) × (kind ≡ Length) × ((bytes : List ℕ) → told_at files column.name ≡ Some bytes → length bytes ≢ column.rows * width_in column.ty)
 StopsColumn files column spec (TooManyBins bins limit) =
-    (limit ≡ 1024) × ((numbers : List ℤ) → HasNumbers files column numbers → bitmap_count spec.encoding (bin_count spec column.mask numbers) ≡ None)
+    (limit ≡ 1024) × (1024 < bins) × ((numbers : List ℤ) → HasNumbers files column numbers → bitmap_count spec.encoding (bin_count spec column.mask numbers) ≡ None)
 StopsColumn files column spec Store = ⊤
 StopsColumn files column spec OutOfMemory = ⊤
 
@@ -84,7 +84,7 @@ StopsColumn files column spec OutOfMemory = ⊤
 abbrev pub StopsIn : Option Files → Dataset → List ℕ → BuildFault → Type 0
 StopsIn files dataset name (Damaged file kind want have) =
     IfSome files (λ m. IsColumnDamaged m dataset name (record { file = file; kind = kind; want = want; have = have }))
-StopsIn files dataset name (TooManyBins bins limit) = limit ≡ 1024
+StopsIn files dataset name (TooManyBins bins limit) = (limit ≡ 1024) × (1024 < bins)
 StopsIn files dataset name Store = ⊤
 StopsIn files dataset name OutOfMemory = ⊤
 

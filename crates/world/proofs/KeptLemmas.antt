@@ -20,7 +20,7 @@ use Rattle.part_meta.specs.FileNames.{IsCalled, catalog_name, file_name, index_n
 use Rattle.part_meta.proofs.FileNameLemmas.{catalog_is_no_csv, catalog_name-injective, file_is_no_catalog, file_is_no_csv, same_file}
 use Rattle.world.specs.World.{Content, IsContent, Partition, World, catalog_data, content_at, with_content}
 use Rattle.world.specs.PartFiles.{part_files}
-use Rattle.world.specs.Stands.{IsFree, IsUnindexed, PartRests, Rests, Stands}
+use Rattle.world.specs.Stands.{IsFree, IsInputName, IsUnindexed, PartRests, Rests, Stands}
 use Rattle.world.proofs.FileLemmas.{IsOfPart, IsWritten, part-written}
 use Rattle.world.proofs.MapLemmas.{get-insert_other, get-insert_same, same_or_apart}
 use Rattle.world.proofs.PlaceLemmas.{All-at}

@@ -1,9 +1,10 @@
 -- The first stage, condition by condition.
-use Rattle.std.proofs.Common.{◌≡◌, ℕ, zero, suc, ◌+◌, ◌*◌, ◌<◌, ◌≤◌, Bool, IsTrue, List, [], ◌∷◌, ◌++◌, Option, Some, None, All, length, map, take, drop, refl, sym, ap, subst, ◌∙◌, arith, length-append}
-use Rattle.std.specs.Prelude.{slice_get}
+use Rattle.std.proofs.Common.{◌≡◌, ℕ, zero, suc, ◌+◌, ◌*◌, ◌<◌, ◌≤◌, Bool, IsTrue, List, [], ◌∷◌, ◌++◌, Option, Some, None, All, length, map, take, drop, refl, sym, ap, subst, ◌∙◌, arith, append_assoc, length-append, inl, inr}
+use Rattle.std.specs.Prelude.{◌⊎◌, slice_get}
 use Rattle.std.specs.List.{flat_map, list_any, sum_by}
+use Rattle.std.proofs.Math.Nat.{mul-le-mul_left}
 use Rattle.std.proofs.lemmas.List.Elements.{All-append}
-use Rattle.std.proofs.lemmas.Option.{slice_get_within}
+use Rattle.std.proofs.lemmas.Option.{get_or_from_slice_get, slice_get-get_or, slice_get_within}
 use Rattle.binning.specs.declared.against_bins.Three.{Three}
 use Rattle.fb_outside.specs.Reads.{Look}
 use Rattle.where_plan.specs.declared.plan.PlanAtom.{PlanAtom}
@@ -13,7 +14,7 @@ use Rattle.stages.specs.Looks.{AddsLooks}
 use Rattle.stages.specs.Meaning.{Meaning}
 use Rattle.stages.specs.Open.{AreOpen}
 use Rattle.stages.proofs.LookLemmas.{adds_done, adds_front, adds_joined, adds_none, adds_weaker}
-use Rattle.stages.proofs.ListLemmas.{any_at, flat_map_front, flat_map_taken, map_taken, mul_more, sum_by_front, sum_by_taken}
+use Rattle.stages.proofs.ListLemmas.{any_at, flat_map_front, flat_map_taken, map_taken, one_long, sum_by_front, sum_by_taken}
 
 -- a read of a file of the column of one of these conditions
 abbrev pub is_free_of : Meaning → List PlanAtom → Look → Bool
@@ -40,14 +41,25 @@ none_settled means is_open rows atoms old before = record {
   steps = λ m is. omega arith;
 }
 
-one_long : {X : Type 0} (P : X → Type 0) (x : X) → P x → All P (x ∷ [])
-one_long P x h = ?
+snoc_get : {X : Type 0} (xs : List X) (x : X) (k : ℕ) (y : X) → slice_get (xs ++ x ∷ []) k ≡ Some y → (slice_get xs k ≡ Some y) ⊎ ((k ≡ length xs) × (x ≡ y))
+snoc_get [] x zero y h = inr (refl, cc)
+snoc_get [] x (suc k) y h = absurd cc
+snoc_get (z ∷ xs) x zero y h = inl h
+snoc_get (z ∷ xs) x (suc k) y h =
+    elim (snoc_get xs x k y h) as (λ _. (slice_get (z ∷ xs) (suc k) ≡ Some y) ⊎ ((suc k ≡ length (z ∷ xs)) × (x ≡ y))) [
+      | inl p ↦ inl p
+      | inr q ↦ inr (let e = q.0 in omega (arith, e), q.1)
+    ]
 
 open_more : {O : Type 0} (is_open : PlanAtom → O → Type 0) (atoms : List PlanAtom) (columns : List O) (atom : PlanAtom) (column : O) → AreOpen is_open atoms columns → slice_get atoms (length columns) ≡ Some atom → is_open atom column → AreOpen is_open atoms (columns ++ column ∷ [])
-open_more is_open atoms [] atom column h at is zero a c ha hc =
-    let sa : atom ≡ a = cc in let sc : column ≡ c = cc in subst (λ z. is_open z c) sa (subst (is_open atom) sc is)
-open_more is_open atoms [] atom column h at is (suc place) a c ha hc = absurd cc
-open_more is_open atoms (y ∷ ys) atom column h at is place a c ha hc = ?
+open_more is_open atoms columns atom column h at is place a c ha hc =
+    elim (snoc_get columns column place c hc) as (λ _. is_open a c) [
+      | inl p ↦ h place a c ha p
+      | inr q ↦ (let e : atom ≡ a = some_same atom a (sym at ∙ ap (slice_get atoms) (sym q.0) ∙ ha) in subst (λ z. is_open z c) e (subst (is_open atom) q.1 is))
+    ]
+  where
+    some_same : (x y : PlanAtom) → Some x ≡ Some y → x ≡ y
+    some_same x y e = cc
 
 -- one more
 pub one_settled : {O : Type 0} (means : Meaning → Type 0) (is_open : PlanAtom → O → Type 0) (rows : ℕ) (atoms : List PlanAtom) (old : Option (List Look)) (before : ℕ) (place : ℕ) (answers : List (List Three)) (open_ : List O) (mid new : Option (List Look)) (then_ now : ℕ) (atom : PlanAtom) (made : List Three) (column : O)
@@ -92,7 +104,10 @@ pub refused_reads : {O : Type 0} (means : Meaning → Type 0) (is_open : PlanAto
     → AddsLooks old new (is_free_of m atoms) m.is_bitmap (flat_map m.fetched atoms) more
 refused_reads means is_open rows atoms old before place answers open_ mid new then_ atom done more h at m is reads not_done =
     let free = m.is_free atom in
-    let whole : flat_map m.fetched (take place atoms) ++ (m.fetched atom ++ flat_map m.fetched (drop (place + 1) atoms)) ≡ flat_map m.fetched atoms = ? in
+    let whole : flat_map m.fetched (take place atoms) ++ (m.fetched atom ++ flat_map m.fetched (drop (place + 1) atoms)) ≡ flat_map m.fetched atoms =
+    sym (append_assoc (flat_map m.fetched (take place atoms)) (m.fetched atom) (flat_map m.fetched (drop (place + 1) atoms)))
+    ∙ ap (λ l. l ++ flat_map m.fetched (drop (place + 1) atoms)) (sym (flat_map_taken m.fetched atoms place atom at))
+    ∙ flat_map_front m.fetched atoms (place + 1) in
     subst (λ l. AddsLooks old new (is_free_of m atoms) m.is_bitmap l more) whole
     (adds_joined old mid new (is_free_of m atoms) m.is_bitmap (flat_map m.fetched (take place atoms)) (m.fetched atom ++ flat_map m.fetched (drop (place + 1) atoms)) (Unit {0}) more tt (h.reads m is)
     (adds_front mid new (is_free_of m atoms) m.is_bitmap (m.fetched atom) (flat_map m.fetched (drop (place + 1) atoms)) done more not_done

@@ -5,7 +5,7 @@ use Rattle.std.specs.List.{AllByRecursion, count_by, flat_map, list_any, sum_by}
 use Rattle.std.proofs.Math.Nat.{mul-le-mul_left}
 use Rattle.std.proofs.lemmas.List.{take_more, map-append}
 use Rattle.std.proofs.lemmas.List.Concat.{flat_map-append}
-use Rattle.std.proofs.lemmas.List.Elements.{All-append}
+use Rattle.std.proofs.lemmas.List.Elements.{All-from_recursion}
 use Rattle.std.proofs.lemmas.List.Sums.{sum_by-append, sum_by-cons}
 use Rattle.std.proofs.lemmas.Option.{get_or_from_slice_get, slice_get_within, slice_get-get_or}
 use Rattle.where_plan.specs.declared.plan.PlanAtom.{PlanAtom}
@@ -73,6 +73,9 @@ pub map_at : {X Y : Type 0} (f : X → Y) (xs : List X) (i : ℕ) (x : X) (d : Y
 map_at f [] i x d h = absurd cc
 map_at f (y ∷ ys) zero x d h = let same : y ≡ x = cc in ap f same
 map_at f (y ∷ ys) (suc i) x d h = map_at f ys i x d h
+
+pub one_long : {X : Type 0} (P : X → Type 0) (x : X) → P x → All P (x ∷ [])
+one_long P x h = All-from_recursion P (x ∷ []) (h, tt)
 
 -- ---- steps
 

@@ -14,6 +14,10 @@ pub map-map : {X Y Z : Type 0} (f : Y → Z) (g : X → Y) (xs : List X) → map
 map-map f g [] = refl
 map-map f g (x ∷ xs) = ap (λ l. f (g x) ∷ l) (map-map f g xs)
 
+pub map_same : {X Y : Type 0} (f g : X → Y) (xs : List X) → ((x : X) → f x ≡ g x) → map f xs ≡ map g xs
+map_same f g [] h = refl
+map_same f g (x ∷ xs) h = ap (λ y. y ∷ map f xs) (h x) ∙ ap (λ l. g x ∷ l) (map_same f g xs h)
+
 here : (b : Bool) (place : ℕ) (v : List Bool) → rows_from place (b ∷ v) ≡ cond b (place ∷ rows_from (place + 1) v) (rows_from (place + 1) v)
 unfolding rows_from
 here true place v = refl

@@ -4,3 +4,4 @@ pub mod Limits
 pub mod Picks
 pub mod Reading
 pub mod Refusals
+pub mod Shorter

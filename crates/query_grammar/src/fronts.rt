@@ -4,6 +4,7 @@ ghost use Rattle.std.specs.Prelude.{◌≡◌, ◌≤◌, not, length, IfOk};
 ghost use Rattle.std.specs.List.{prefix_len};
 ghost use Rattle.std.specs.Option.{option_map};
 ghost use Rattle.where_grammar.specs.Parsing.{At, bare, seen_at};
+ghost use Rattle.query_grammar.specs.Shorter.{Shrinks};
 ghost use Rattle.query_grammar.specs.Reading.{clause_len, counted_at, directed, ends_clause, item_at, item_from, limit_at, listed_at, name_called, order_at, order_item_at, plain_item, seen_where, select_at, where_at};
 
 use crate::query::{Item, OrderItem};
@@ -13,20 +14,19 @@ use std::alloc::{AllocError, Global};
 use where_grammar::{Placed, Sign, Token, after_sign, after_word, first, name_at, number_at};
 
 /// One of a list whose items stand with commas between.
-pub(crate) trait Listed: Drop + Sized {
+pub(crate) trait ListItem: Drop + Sized {
     ghost part: { At Self };
 
     /// The one at the front, and what follows it.
     fn at(alloc: Global, tokens: &[Placed]) -> Result<Option<(Self, &[Placed])>, AllocError>
         ensures { IfOk result (λ found. seen_at found ≡ part (bare tokens.now)) };
+
+    ghost shrinks: { Shrinks part };
 }
 
 /// A name in parentheses, behind the word of an aggregate.
 #[tactic(auto, unfolding(crate::specs::Reading::name_called))]
-fn name_called(
-    alloc: Global,
-    tokens: &[Placed],
-) -> Result<Option<(ColName, &[Placed])>, AllocError>
+fn name_called(alloc: Global, tokens: &[Placed]) -> Result<Option<(ColName, &[Placed])>, AllocError>
     ensures { IfOk result (λ found. seen_at found ≡ name_called (bare tokens.now)) }
 {
     let Some(rest) = after_sign(tokens, Sign::Open) else {
@@ -95,8 +95,9 @@ fn plain_item<'a>(
     }
 }
 
-impl Listed for Item {
+impl ListItem for Item {
     ghost use Rattle.query_grammar.specs.Reading.{item_at};
+    ghost use Rattle.query_grammar.specs.Shorter.{item_at-shorter};
 
     ghost part = { item_at };
 
@@ -106,6 +107,8 @@ impl Listed for Item {
             None => Ok(None),
         }
     }
+
+    ghost shrinks = { item_at-shorter };
 }
 
 /// The item with the direction behind it, and what follows.
@@ -121,8 +124,9 @@ fn directed(item: Item, tokens: &[Placed]) -> (OrderItem, &[Placed])
     }
 }
 
-impl Listed for OrderItem {
+impl ListItem for OrderItem {
     ghost use Rattle.query_grammar.specs.Reading.{order_item_at};
+    ghost use Rattle.query_grammar.specs.Shorter.{order_item_at-shorter};
 
     ghost part = { order_item_at };
 
@@ -132,10 +136,12 @@ impl Listed for OrderItem {
             None => Ok(None),
         }
     }
+
+    ghost shrinks = { order_item_at-shorter };
 }
 
 /// One or more with commas between, and what follows them.
-fn listed<T: Listed>(
+fn listed<T: ListItem>(
     alloc: Global,
     tokens: &[Placed],
 ) -> Result<Option<(Items<T>, &[Placed])>, AllocError>

@@ -22,6 +22,7 @@ use std::alloc::{AllocError, Global};
 use where_grammar::{ClauseFault, Placed, QueryKind, clause_of, long_of, tokens};
 
 /// A query whose clause is still tokens.
+#[derive(Drop)]
 pub(crate) struct PartsRead<'a> {
     select: Option<Items<Item>>,
     clause: Option<&'a [Placed]>,

@@ -1,4 +1,6 @@
-use crate::{Item, OrderItem, Pick, PickItem, Query, SelectFault, SelectKind, parse_query, resolve_select};
+use crate::{
+    Item, OrderItem, Pick, PickItem, Query, SelectFault, SelectKind, parse_query, resolve_select,
+};
 use fb_types::{ColName, Label, parse_schema};
 use std::alloc::{AllocError, Global};
 use std::test::Fail;
@@ -86,12 +88,21 @@ fn texts_are_queries(rt: HostRuntime) -> Result<(), Fail> {
         (" \t\r\n", "query alone"),
         ("where a < 5", "query alone | a < 5"),
         ("select a", "query a"),
-        ("SELECT a, B where A<5 ORDER BY b desc, a LIMIT 7", "query a b | a < 5 down b up a first 7"),
+        (
+            "SELECT a, B where A<5 ORDER BY b desc, a LIMIT 7",
+            "query a b | a < 5 down b up a first 7",
+        ),
         ("select b, count(*), sum(a)", "query b count(*) sum(a)"),
         ("select min ( a ),max(a)", "query min(a) max(a)"),
         ("select a order by a asc limit 0", "query a up a first 0"),
-        ("select a limit +999999999999999999", "query a first 999999999999999999"),
-        ("select a where b in (1, 2) and c like \"x\" limit 1", "query a | b in (1, 2) and c like \"x\" first 1"),
+        (
+            "select a limit +999999999999999999",
+            "query a first 999999999999999999",
+        ),
+        (
+            "select a where b in (1, 2) and c like \"x\" limit 1",
+            "query a | b in (1, 2) and c like \"x\" first 1",
+        ),
         ("select a,a order by count(*)", "query a a up count(*)"),
     ] {
         let found = told(rt.alloc(), text)?;
@@ -129,10 +140,22 @@ fn texts_are_refused(rt: HostRuntime) -> Result<(), Fail> {
         ("a < 5", "Syntax"),
         ("select a limit -1", "Literal"),
         ("select a limit 1000000000000000000", "Literal"),
-        ("select a limit 170141183460469231731687303715884105728", "Literal"),
-        ("select | limit 170141183460469231731687303715884105728", "Syntax"),
-        ("select a, where a < 170141183460469231731687303715884105728", "Literal"),
-        ("select a where not not not not not not not not not not not not not not not not not a < 1", "Depth"),
+        (
+            "select a limit 170141183460469231731687303715884105728",
+            "Literal",
+        ),
+        (
+            "select | limit 170141183460469231731687303715884105728",
+            "Syntax",
+        ),
+        (
+            "select a, where a < 170141183460469231731687303715884105728",
+            "Literal",
+        ),
+        (
+            "select a where not not not not not not not not not not not not not not not not not a < 1",
+            "Depth",
+        ),
     ] {
         let found = told(rt.alloc(), text)?;
         assert!(rt; found.as_str() == want, "{text}");
@@ -161,12 +184,18 @@ fn lists_and_nesting_have_limits(rt: HostRuntime) -> Result<(), Fail> {
         let more = repeated(alloc, ",a", count)?;
         let found = told(alloc, format!(in alloc; "select a{more}{tail}")?.as_str())?;
         assert!(rt; found.as_str().starts_with(want));
-        let found = told(alloc, format!(in alloc; "select a order by a{more}{tail}")?.as_str())?;
+        let found = told(
+            alloc,
+            format!(in alloc; "select a order by a{more}{tail}")?.as_str(),
+        )?;
         assert!(rt; found.as_str().starts_with(want));
     }
     for (count, want) in [(4095, "query"), (4096, "ListLength")] {
         let more = repeated(alloc, ",1", count)?;
-        let found = told(alloc, format!(in alloc; "select a where a in (1{more}) limit 1")?.as_str())?;
+        let found = told(
+            alloc,
+            format!(in alloc; "select a where a in (1{more}) limit 1")?.as_str(),
+        )?;
         assert!(rt; found.as_str().starts_with(want));
     }
     for (count, want) in [(64, "query"), (65, "Depth")] {
@@ -238,8 +267,14 @@ fn items_name_columns(rt: HostRuntime) -> Result<(), Fail> {
     for (text, want) in [
         ("where z < 5", "none"),
         ("select c, a", "rows 2 0"),
-        ("select b, count(*), sum(a), min(d), max(a)", "groups 1 count sum 0 min 3 max 0"),
-        ("select b, count(*) order by count(*) desc, b limit 3", "groups 1 count down 1 up 0 first 3"),
+        (
+            "select b, count(*), sum(a), min(d), max(a)",
+            "groups 1 count sum 0 min 3 max 0",
+        ),
+        (
+            "select b, count(*) order by count(*) desc, b limit 3",
+            "groups 1 count down 1 up 0 first 3",
+        ),
         ("select a, a order by a", "rows 0 0 up 0"),
         ("select z, sum(b)", "unknown z"),
         ("select sum(b), z", "wrong type b"),

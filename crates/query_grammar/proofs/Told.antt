@@ -190,12 +190,11 @@ pub select_told : Finds select_at IsSelect
 select_told tokens found e = select_by_told (after (is_word (codes "select")) tokens) tokens found refl e
 
 -- tokens that are a clause's, where the query has one
-pub IsWhereOf : Option (List Token) → List Token → Type 0
+abbrev pub IsWhereOf : Option (List Token) → List Token → Type 0
 IsWhereOf None tokens = tokens ≡ []
 IsWhereOf (Some clause) tokens = tokens ≡ keyword (codes "where") ∷ clause
 
 where_by_told : (o : Option (List Token)) (tokens : List Token) → after (is_word (codes "where")) tokens ≡ o → Cut IsWhereOf tokens (where_by o tokens)
-unfolding IsWhereOf
 where_by_told None tokens is = record { front = []; cut = refl; spelled = refl }
 where_by_told (Some behind) tokens is =
     let n = clause_len behind in
@@ -263,7 +262,7 @@ ended_told p q [] e =
 ended_told p q (token ∷ rest) e = absurd cc
 
 pub parts_told : (tokens : List Token) (p : Parts) → parts_of tokens ≡ Some p → HasParts p tokens
-unfolding parts_of, ordered_parts
+unfolding parts_of ordered_parts
 parts_told tokens p e =
     let s = chained _ (select_at tokens) p e in
     let w = where_at s.0.1 in
@@ -280,7 +279,6 @@ parts_told tokens p e =
     (record { selecting = cs.front; choosing = cw.front; sorting = co.front; ending = cl.front; cut = whole; select = cs.spelled; clause = cw.spelled; order = co.spelled; limit = cl.spelled; shown = only_rows_told s.0.0 o.0.0 l.0.0 end.1 })
 
 filled_told : (p : Parts) (clause : Option (List Token)) (asked : Asked) (tokens : List Token) → IsWhereOf clause tokens → filled p clause ≡ Some asked → (found : Option Clause) × IsWhere found tokens × (with_clause p found ≡ asked)
-unfolding IsWhereOf
 filled_told p None asked tokens is e = (None, subst (IsWhere None) (sym is) all_records, cc)
 filled_told p (Some clause) asked tokens is e =
     let h = mapped (λ c. with_clause p (Some c)) (clause_of clause) asked e in

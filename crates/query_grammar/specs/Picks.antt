@@ -1,6 +1,6 @@
 -- What a query selects, under a schema.
 use Rattle.std.specs.Prelude.{◌≡◌, ◌<◌, ℕ, Bool, true, false, is_some, List, [], ◌∷◌, length, Option, Some, None, option_map, slice_get, position}
-use Rattle.std.specs.List.{AllByRecursion, list_any}
+use Rattle.std.specs.List.{AllByRecursion, AllZip, list_any}
 use Rattle.std.specs.Str.{bytes_eq}
 use Rattle.fb_types.specs.declared.schemas.Column.{Column}
 use Rattle.fb_types.specs.declared.types.ColType.{ColType}
@@ -54,10 +54,7 @@ IsPicked columns (item.Sum name) (pick.Sum col) = IsOfNumbers columns name col
 IsPicked columns _ _ = ⊥
 
 abbrev pub ArePicked : List Column → List Item → List PickItem → Type 0
-ArePicked columns [] [] = Unit {0}
-ArePicked columns [] (p ∷ ps) = ⊥
-ArePicked columns (i ∷ items) [] = ⊥
-ArePicked columns (i ∷ items) (p ∷ ps) = IsPicked columns i p × ArePicked columns items ps
+ArePicked columns items picks = AllZip (IsPicked columns) items picks
 
 -- ---- orders
 
@@ -66,10 +63,7 @@ abbrev pub IsPlaced : List Item → OrderItem → OrderPlace → Type 0
 IsPlaced items by at = (position (same_item by.item) items ≡ Some at.place) × (at.down ≡ by.down)
 
 abbrev pub ArePlaced : List Item → List OrderItem → List OrderPlace → Type 0
-ArePlaced items [] [] = Unit {0}
-ArePlaced items [] (p ∷ ps) = ⊥
-ArePlaced items (o ∷ order) [] = ⊥
-ArePlaced items (o ∷ order) (p ∷ ps) = IsPlaced items o p × ArePlaced items order ps
+ArePlaced items order places = AllZip (IsPlaced items) order places
 
 -- ---- the whole
 

@@ -1,5 +1,5 @@
 -- From the conditions' answers on the rows on which a plan is Unknown to the rows on which it is true.
-use Rattle.std.proofs.Common.{◌≡◌, ℕ, zero, suc, ◌+◌, ◌*◌, ◌<◌, ◌≤◌, ◌||◌, ◌&&◌, Bool, true, false, not, cond, IsTrue, List, [], ◌∷◌, All, length, map, get_or, refl, sym, ap, subst, ◌∙◌, arith}
+use Rattle.std.proofs.Common.{◌≡◌, ℕ, zero, suc, ◌+◌, ◌*◌, ◌<◌, ◌≤◌, ◌||◌, ◌&&◌, Bool, true, false, not, cond, IsTrue, List, [], ◌∷◌, Option, All, length, map, get_or, refl, sym, ap, subst, ◌∙◌, arith}
 use Rattle.std.specs.List.{AllByRecursion, count_by, filter, list_any, range_with_len, sum_by}
 use Rattle.std.proofs.lemmas.List.{length-map}
 use Rattle.std.proofs.lemmas.List.Elements.{All-from_recursion}
@@ -19,8 +19,10 @@ use Rattle.three_valued.specs.Rows.{columns, each_row}
 use Rattle.three_valued.specs.Tables.{decided, is_possible, is_unknown, is_yes}
 use Rattle.three_valued.proofs.SoundLemmas.{known_truth, sound_plans}
 use Rattle.stages.specs.Answer.{is_allowed_in, is_allowed_on, met_of, true_of}
+use Rattle.stages.specs.Looks.{AddsLooks}
 use Rattle.stages.specs.Meaning.{IsMeaningOf, Meaning}
 use Rattle.stages.specs.Second.{candidates_of, exact_of, settled_of}
+use Rattle.stages.proofs.LookLemmas.{adds_weaker}
 use Rattle.stages.proofs.RowLemmas.{count_by-filter, count_by-map, each_place-map, map-map, map_same, rows_from-map}
 use Rattle.stages.proofs.SecondLemmas.{is_allowed_of}
 
@@ -204,3 +206,26 @@ none_checked m plan whole same none =
 pub counted : (f : Three → Bool) (w : ℕ → Three) (rows : ℕ) (v : List Three) → v ≡ each_row rows w → count_by (λ b. b) (map f v) ≡ count_by (λ row. f (w row)) (range_with_len 0 rows)
 counted f w rows v same =
     ap (λ l. count_by (λ b. b) (map f l)) same ∙ ap (count_by (λ b. b)) (map-map f w (range_with_len 0 rows)) ∙ count_by-map (λ row. f (w row)) (range_with_len 0 rows)
+
+-- ---- what the second stage made
+
+same_length : (m : Meaning) (plan : Plan) (whole : List Three) → whole ≡ each_row m.rows (whole_at m plan) → length whole ≡ m.rows
+same_length m plan whole same = ap length same ∙ length-map-range_with_len (whole_at m plan) 0 m.rows
+
+pub told_exact : (m : Meaning) (plan : Plan) (atoms : List PlanAtom) (whole : List Three) (unknown : List Bool) (answers : List (List Three)) → atoms ≡ atoms_of plan → whole ≡ each_row m.rows (whole_at m plan) → unknown ≡ map is_unknown whole → answers ≡ map (exact_of m unknown) atoms → answers ≡ columns (length whole) (exact_answer m plan) (atoms_of plan)
+told_exact m plan atoms whole unknown answers all same open_ made =
+    made ∙ ap (λ u. map (exact_of m u) atoms) (unknown_rows m plan whole unknown same open_) ∙ ap (map (exact_of m (unknown_of m plan))) all
+    ∙ exact_columns m plan ∙ ap (λ n. columns n (exact_answer m plan) (atoms_of plan)) (sym (same_length m plan whole same))
+
+pub told_rows : (m : Meaning) (plan : Plan) (whole : List Three) (v : List Bool) → whole ≡ each_row m.rows (whole_at m plan) → v ≡ each_row (length whole) (λ row. is_true (m.truth row) plan) → v ≡ true_of m plan
+told_rows m plan whole v same is = is ∙ ap (λ n. each_row n (λ row. is_true (m.truth row) plan)) (same_length m plan whole same)
+
+pub told_checked : (m : Meaning) (plan : Plan) (atoms : List PlanAtom) (whole : List Three) (unknown : List Bool) (number : ℕ) → atoms ≡ atoms_of plan → whole ≡ each_row m.rows (whole_at m plan) → unknown ≡ map is_unknown whole → number ≡ sum_by (λ atom. ones (candidates_of m unknown atom)) atoms → number ≡ checked m.rows m.answer plan
+told_checked m plan atoms whole unknown number all same open_ is =
+    is ∙ ap (λ u. sum_by (λ atom. ones (candidates_of m u atom)) atoms) (unknown_rows m plan whole unknown same open_)
+    ∙ ap (sum_by (λ atom. ones (candidates_of m (unknown_of m plan) atom))) all ∙ all_checked m plan
+
+pub told_reads : (m : Meaning) (plan : Plan) (atoms : List PlanAtom) (whole : List Three) (unknown : List Bool) (old new : Option (List Look)) (done : Type 0) → atoms ≡ atoms_of plan → whole ≡ each_row m.rows (whole_at m plan) → unknown ≡ map is_unknown whole → AddsLooks old new (is_allowed_of m unknown atoms) m.is_bitmap [] done → AddsLooks old new (is_allowed_in m plan) m.is_bitmap [] done
+told_reads m plan atoms whole unknown old new done all same open_ reads =
+    adds_weaker old new (is_allowed_of m unknown atoms) (is_allowed_in m plan) m.is_bitmap [] done
+    (λ look allowed. subst IsTrue (ap (λ u. is_allowed_of m u atoms look) (unknown_rows m plan whole unknown same open_) ∙ ap (λ l. is_allowed_of m (unknown_of m plan) l look) all ∙ allowed_same m plan look) allowed) reads

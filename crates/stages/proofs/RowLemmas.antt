@@ -1,9 +1,9 @@
 -- Vectors of what is said of each row: their rows, how many there are, and operations on two.
-use Rattle.std.proofs.Common.{◌≡◌, ℕ, zero, suc, ◌+◌, Bool, true, false, cond, List, [], ◌∷◌, length, map, refl, sym, ap, ◌∙◌}
+use Rattle.std.proofs.Common.{◌≡◌, ℕ, zero, suc, ◌+◌, ◌<◌, Bool, true, false, cond, List, [], ◌∷◌, length, map, get_or, refl, sym, ap, ◌∙◌, arith}
 use Rattle.std.specs.List.{count_by, filter, range_with_len}
 use Rattle.std.proofs.lemmas.List.Sums.{length-filter, sum_by-cons}
 use Rattle.wah_iter.specs.Rows.{rows_from}
-use Rattle.wah_logic.specs.Logic.{each_place}
+use Rattle.wah_logic.specs.Logic.{and, each_place, ones}
 
 pub each_place-map : {X : Type 0} (op : Bool → Bool → Bool) (f g : X → Bool) (xs : List X) → each_place op (map f xs) (map g xs) ≡ map (λ x. op (f x) (g x)) xs
 unfolding each_place
@@ -36,3 +36,22 @@ count_by-map p (x ∷ xs) =
 
 pub count_by-filter : {X : Type 0} (p : X → Bool) (xs : List X) → count_by (λ b. b) (map p xs) ≡ length (filter p xs)
 count_by-filter p xs = count_by-map p xs ∙ sym (length-filter p xs)
+
+-- a vector without rows has none in common with another
+pub none_in_common : (v w : List Bool) → ones v ≡ 0 → length v ≡ length w → each_place and v w ≡ v
+unfolding each_place
+none_in_common [] w h k = refl
+none_in_common (x ∷ v) [] h k = absurd (omega arith)
+none_in_common (true ∷ v) (y ∷ w) h k = let one = sum_by-cons (λ b. cond b 1 0) true v in absurd (omega (arith, one, h))
+none_in_common (false ∷ v) (y ∷ w) h k =
+    let one = sum_by-cons (λ b. cond b 1 0) false v in
+    ap (λ l. false ∷ l) (none_in_common v w (omega (arith, one, h)) (omega arith))
+
+-- a row of both is one of the first
+pub row_of_first : (v w : List Bool) (k : ℕ) → get_or (each_place and v w) k false ≡ true → get_or v k false ≡ true
+unfolding each_place
+row_of_first [] w k h = h
+row_of_first (x ∷ v) [] k h = absurd (cc)
+row_of_first (true ∷ v) (y ∷ w) zero h = refl
+row_of_first (false ∷ v) (y ∷ w) zero h = absurd (cc)
+row_of_first (x ∷ v) (y ∷ w) (suc k) h = row_of_first v w k h

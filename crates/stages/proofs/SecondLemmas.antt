@@ -1,11 +1,13 @@
 -- The second stage, condition by condition.
 use Rattle.std.proofs.Common.{◌≡◌, ℕ, zero, suc, ◌+◌, ◌*◌, ◌<◌, ◌≤◌, Bool, true, false, IsTrue, List, [], ◌∷◌, ◌++◌, Option, Some, None, All, length, map, take, get_or, refl, sym, ap, subst, ◌∙◌, arith, length-append}
 use Rattle.std.specs.Prelude.{slice_get}
-use Rattle.std.specs.List.{count_by, list_any, sum_by}
+use Rattle.std.specs.List.{count_by, list_any, range_with_len, sum_by}
+use Rattle.std.proofs.lemmas.List.FromFn.{get_or-map-range_with_len}
 use Rattle.std.proofs.lemmas.List.{length-map}
 use Rattle.std.proofs.lemmas.List.Elements.{All-append}
 use Rattle.std.proofs.lemmas.List.Sums.{count_by-le-length}
 use Rattle.binning.specs.declared.against_bins.Three.{Three}
+use Rattle.binning.specs.declared.against_bins.Three.TheVariants.{Yes, No, Unknown}
 use Rattle.fb_outside.specs.Reads.{Look}
 use Rattle.where_plan.specs.declared.plan.PlanAtom.{PlanAtom}
 use Rattle.wah_iter.specs.Rows.{rows_of}
@@ -13,12 +15,13 @@ use Rattle.wah_logic.specs.Logic.{and, each_place, groups_and_rest, ones}
 use Rattle.wah_logic.proofs.JoinLemmas.{length-each}
 use Rattle.three_valued.specs.Rows.{columns, each_row}
 use Rattle.three_valued.specs.Tables.{is_unknown}
-use Rattle.stages.specs.Answer.{is_allowed_on, met_of}
+use Rattle.stages.specs.Answer.{AreUnknown, is_allowed_on, met_of}
 use Rattle.stages.specs.Looks.{AddsLooks}
 use Rattle.stages.specs.Meaning.{Meaning}
 use Rattle.stages.specs.Second.{candidates_in, candidates_of, exact_of, exact_on, settled_of}
 use Rattle.stages.proofs.LookLemmas.{adds_done, adds_joined, adds_none, adds_weaker}
 use Rattle.stages.proofs.ListLemmas.{any_at, map_at, map_taken, one_long, sum_by_taken}
+use Rattle.stages.proofs.RowLemmas.{map-map, row_of_first}
 
 -- a read of a file of the column of one of these conditions: one without values, or of values on its candidates
 abbrev pub is_allowed_of : Meaning → List Bool → List PlanAtom → Look → Bool
@@ -107,3 +110,17 @@ refused_reads means rows unknown atoms old before place answers checked mid new 
     adds_joined old mid new (is_allowed_of m unknown atoms) m.is_bitmap [] [] (Unit {0}) done tt (h.reads m is)
     (adds_weaker mid new (is_allowed_on m atom (rows_of (candidates_in settled unknown))) (is_allowed_of m unknown atoms) m.is_bitmap [] done
     (λ look free. any_at (λ x. is_allowed_on m x (rows_of (candidates_of m unknown x)) look) atoms place atom at (subst (λ s. IsTrue (is_allowed_on m atom (rows_of (candidates_in s unknown)) look)) same free)) reads)
+
+-- ---- candidates
+
+unknown_from : (x : Three) → is_unknown x ≡ true → x ≡ Unknown
+unknown_from Yes h = absurd cc
+unknown_from No h = absurd cc
+unknown_from Unknown h = refl
+
+-- on each candidate the condition is Unknown
+pub candidates_unknown : (m : Meaning) (atom : PlanAtom) (settled : List Three) (unknown rows : List Bool) → settled ≡ settled_of m atom → rows ≡ candidates_in settled unknown → AreUnknown m atom rows
+candidates_unknown m atom settled unknown rows is e row below there =
+    let first = row_of_first (map is_unknown settled) unknown row (ap (λ v. get_or v row false) (sym e) ∙ there) in
+    let same : map is_unknown settled ≡ each_row m.rows (λ r. is_unknown (m.answer r atom)) = ap (map is_unknown) is ∙ map-map is_unknown (λ r. m.answer r atom) (range_with_len 0 m.rows) in
+    unknown_from (m.answer row atom) (sym (get_or-map-range_with_len (λ r. is_unknown (m.answer r atom)) 0 m.rows row row false below (omega arith)) ∙ ap (λ v. get_or v row false) (sym same) ∙ first)

@@ -23,13 +23,13 @@ use where_plan::PlanAtom;
 #[derive(Drop)]
 pub struct Settled<O> {
     pub answers: Answers,
-    pub open: O,
+    pub column: O,
 }
 
 /// The conditions that a plan can have, over a partition whose files are in a store.
 pub trait Conditions {
     /// The column of a condition that was settled, as far as it is open.
-    type Open: Drop;
+    type Column: Drop;
     /// Why a condition isn't answered.
     type Fault: From<AllocError>;
 
@@ -43,7 +43,7 @@ pub trait Conditions {
     ghost means: { Self → Option Files → Meaning → Type 0 };
 
     // The column of the condition is open.
-    ghost is_open: { Self → Option Files → PlanAtom → Self.Open → Type 0 };
+    ghost is_open: { Self → Option Files → PlanAtom → Self.Column → Type 0 };
 
     // What the fault says of files of the condition's column.
     ghost stops: { Self → Option Files → PlanAtom → Self.Fault → Type 0 };
@@ -66,12 +66,12 @@ pub trait Conditions {
         store: &mut S,
         atom: &PlanAtom,
         steps: &mut Steps<L>,
-    ) -> Result<Settled<Self::Open>, Self::Fault>
+    ) -> Result<Settled<Self::Column>, Self::Fault>
         requires fits { fits self.now atom.now }
         ensures cause { HasCause (S.faults store.old) (S.faults store.new) (IsRefused result is_store) }
         ensures files { SameFiles (S.files store.old) (S.files store.new) }
         ensures stop { IfErr result (stops self.now (S.files store.old) atom.now) }
-        ensures open { IfOk result (λ settled. is_open self.now (S.files store.old) atom.now settled.open) }
+        ensures opened { IfOk result (λ settled. is_open self.now (S.files store.old) atom.now settled.column) }
         ensures length { IfOk result (λ settled. length settled.answers ≡ rows self.now) }
 
         // Where the files are sound.
@@ -86,12 +86,12 @@ pub trait Conditions {
         alloc: Global,
         store: &mut S,
         atom: &PlanAtom,
-        open: &Self::Open,
+        column: &Self::Column,
         candidates: &Wah,
         steps: &mut Steps<L>,
     ) -> Result<Wah, Self::Fault>
         requires fits { fits self.now atom.now }
-        requires open { is_open self.now (S.files store.old) atom.now open.now }
+        requires opened { is_open self.now (S.files store.old) atom.now column.now }
         requires length { length candidates.now ≡ rows self.now }
         requires unknown { (m : Meaning) → means self.now (S.files store.old) m → AreUnknown m atom.now candidates.now }
         ensures cause { HasCause (S.faults store.old) (S.faults store.new) (IsRefused result is_store) }

@@ -23,7 +23,7 @@ use three_valued::Answers;
 #[derive(Drop)]
 pub(crate) struct FirstStage<O> {
     pub(crate) answers: Vec<Answers>,
-    pub(crate) open: Vec<O>,
+    pub(crate) opened: Vec<O>,
 }
 
 /// Settles conditions in order.
@@ -33,15 +33,15 @@ pub(crate) fn settle_all<S: Store, C: Conditions, L: Ledger>(
     conditions: &C,
     atoms: &Atoms,
     steps: &mut Steps<L>,
-) -> Result<FirstStage<C::Open>, C::Fault>
+) -> Result<FirstStage<C::Column>, C::Fault>
     requires { AllByRecursion (C.fits conditions.now) atoms.now }
     ensures cause { HasCause (S.faults store.old) (S.faults store.new) (IsRefused result C.is_store) }
     ensures files { SameFiles (S.files store.old) (S.files store.new) }
     ensures stop { IfErr result (λ fault. C.is_memory fault ⊎ IsOneOf atoms.now (λ atom. C.stops conditions.now (S.files store.old) atom fault)) }
-    ensures columns { IfOk result (λ stage. length stage.open.items ≡ length atoms.now) }
+    ensures number_opened { IfOk result (λ stage. length stage.opened.items ≡ length atoms.now) }
     ensures number { IfOk result (λ stage. length stage.answers.items ≡ length atoms.now) }
     ensures long { IfOk result (λ stage. All (λ a. length a ≡ C.rows conditions.now) stage.answers.items) }
-    ensures open { IfOk result (λ stage. AreOpen (C.is_open conditions.now (S.files store.old)) atoms.now stage.open.items) }
+    ensures opened { IfOk result (λ stage. AreOpen (C.is_open conditions.now (S.files store.old)) atoms.now stage.opened.items) }
 
     // Where the files are sound.
     ensures answers { IfOk result (λ stage. (m : Meaning) → C.means conditions.now (S.files store.old) m → stage.answers.items ≡ columns m.rows m.answer atoms.now) }
@@ -50,11 +50,11 @@ pub(crate) fn settle_all<S: Store, C: Conditions, L: Ledger>(
     ensures steps { (m : Meaning) → C.means conditions.now (S.files store.old) m → steps.new ≤ steps.old + 2 * groups_and_rest m.rows * sum_by m.work atoms.now }
 {
     let mut answers = Vec::new(alloc);
-    let mut open = Vec::new(alloc);
+    let mut opened = Vec::new(alloc);
     for place in 0..atoms.len() {
         let settled = conditions.settle(alloc, store, atoms.at(place), steps)?;
         keep(&mut answers, settled.answers)?;
-        keep(&mut open, settled.open)?;
+        keep(&mut opened, settled.column)?;
     }
-    Ok(FirstStage { answers, open })
+    Ok(FirstStage { answers, opened })
 }

@@ -4,6 +4,7 @@ ghost use Rattle.std.specs.List.{AllByRecursion, list_any};
 ghost use Rattle.fb_outside.specs.Causes.{HasCause};
 ghost use Rattle.fb_outside.specs.Files.{SameFiles};
 ghost use Rattle.wah_iter.specs.Rows.{rows_of};
+ghost use Rattle.wah_words.specs.Limits.{most_bits};
 ghost use Rattle.wah_logic.specs.Logic.{and, each_place, groups_and_rest, ones};
 ghost use Rattle.three_valued.specs.Rows.{columns, each_row};
 ghost use Rattle.stages.specs.Answer.{AreUnknown, is_allowed_on, met_of};
@@ -46,13 +47,13 @@ fn find<S: Store, C: Conditions, L: Ledger>(
     store: &mut S,
     conditions: &C,
     atom: &PlanAtom,
-    open: &C::Open,
+    column: &C::Column,
     candidates: Wah,
     number: u64,
     steps: &mut Steps<L>,
 ) -> Result<Wah, C::Fault>
     requires fits { C.fits conditions.now atom.now }
-    requires open { C.is_open conditions.now (S.files store.old) atom.now open.now }
+    requires opened { C.is_open conditions.now (S.files store.old) atom.now column.now }
     requires length { length candidates ≡ C.rows conditions.now }
     requires number { number ≡ ones candidates }
     requires unknown { (m : Meaning) → C.means conditions.now (S.files store.old) m → AreUnknown m atom.now candidates }
@@ -70,7 +71,7 @@ fn find<S: Store, C: Conditions, L: Ledger>(
     if number == 0 {
         return Ok(candidates);
     }
-    conditions.check(alloc, store, atom, open, &candidates, steps)
+    conditions.check(alloc, store, atom, column, &candidates, steps)
 }
 
 /// Makes a condition exact on the rows on which the plan is Unknown.
@@ -79,13 +80,13 @@ fn decide<S: Store, C: Conditions, L: Ledger>(
     store: &mut S,
     conditions: &C,
     atom: &PlanAtom,
-    open: &C::Open,
+    column: &C::Column,
     answers: &Answers,
     unknown: &Wah,
     steps: &mut Steps<L>,
 ) -> Result<Decided, C::Fault>
     requires fits { C.fits conditions.now atom.now }
-    requires open { C.is_open conditions.now (S.files store.old) atom.now open.now }
+    requires opened { C.is_open conditions.now (S.files store.old) atom.now column.now }
     requires length { length answers.now ≡ C.rows conditions.now }
     requires long { length unknown.now ≡ C.rows conditions.now }
     requires settled { (m : Meaning) → C.means conditions.now (S.files store.old) m → answers.now ≡ each_row m.rows (λ row. m.answer row atom.now) }
@@ -103,7 +104,7 @@ fn decide<S: Store, C: Conditions, L: Ledger>(
 {
     let rows = candidates(alloc, answers, unknown, steps)?;
     let checked = count_ones(&rows, steps);
-    let found = find(alloc, store, conditions, atom, open, rows, checked, steps)?;
+    let found = find(alloc, store, conditions, atom, column, rows, checked, steps)?;
     let answers = exact(alloc, answers, unknown, &found, steps)?;
     Ok(Decided { answers, checked })
 }
@@ -114,14 +115,15 @@ pub(crate) fn decide_all<S: Store, C: Conditions, L: Ledger>(
     store: &mut S,
     conditions: &C,
     atoms: &Atoms,
-    stage: &FirstStage<C::Open>,
+    stage: &FirstStage<C::Column>,
     unknown: &Wah,
     steps: &mut Steps<L>,
 ) -> Result<SecondStage, C::Fault>
     requires fits { AllByRecursion (C.fits conditions.now) atoms.now }
     requires few { length atoms.now < 2 ^ 32 }
-    requires open { AreOpen (C.is_open conditions.now (S.files store.old)) atoms.now stage.now.open.items }
-    requires columns { length stage.now.open.items ≡ length atoms.now }
+    requires limit { C.rows conditions.now ≤ most_bits }
+    requires opened { AreOpen (C.is_open conditions.now (S.files store.old)) atoms.now stage.now.opened.items }
+    requires number_opened { length stage.now.opened.items ≡ length atoms.now }
     requires number { length stage.now.answers.items ≡ length atoms.now }
     requires length { All (λ a. length a ≡ C.rows conditions.now) stage.now.answers.items }
     requires long { length unknown.now ≡ C.rows conditions.now }
@@ -147,7 +149,7 @@ pub(crate) fn decide_all<S: Store, C: Conditions, L: Ledger>(
             store,
             conditions,
             atoms.at(place),
-            &stage.open[place],
+            &stage.opened[place],
             &stage.answers[place],
             unknown,
             steps,

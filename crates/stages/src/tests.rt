@@ -72,7 +72,7 @@ fn column_of(atom: &PlanAtom) -> usize
 }
 
 impl Conditions for Sheet {
-    type Open = Closed;
+    type Column = Closed;
     type Fault = NoMemory;
 
     ghost fits = { λ s atom. place_in atom < length s.known.items };
@@ -81,7 +81,7 @@ impl Conditions for Sheet {
 
     ghost means = { λ s files m. IsMeaningOf s.rows (λ atom. place_in atom < length s.known.items) m × ((place : ℕ) (known : Known) (atom : PlanAtom) → slice_get s.known.items place ≡ Some known → place_in atom ≡ place → (each_row m.rows (λ row. m.answer row atom) ≡ answers_of known.definite known.unknown) × (met_of m atom ≡ known.truth) × (m.fetched atom ≡ []) × (m.work atom ≡ 2)) };
 
-    ghost is_open = { λ s files atom open. ⊤ };
+    ghost is_open = { λ s files atom column. ⊤ };
 
     ghost stops = { λ s files atom fault. ⊤ };
 
@@ -111,7 +111,7 @@ impl Conditions for Sheet {
         let answers = Answers::with_unknown(alloc, definite, &known.unknown, steps)?;
         Ok(Settled {
             answers,
-            open: Closed,
+            column: Closed,
         })
     }
 
@@ -120,7 +120,7 @@ impl Conditions for Sheet {
         alloc: Global,
         _store: &mut S,
         atom: &PlanAtom,
-        _open: &Closed,
+        _column: &Closed,
         candidates: &Wah,
         steps: &mut Steps<L>,
     ) -> Result<Wah, NoMemory> {

@@ -119,7 +119,7 @@ fn second_stage<S: Store, C: Conditions, L: Ledger>(
     conditions: &C,
     plan: &Plan,
     atoms: &Atoms,
-    stage: &FirstStage<C::Open>,
+    stage: &FirstStage<C::Column>,
     whole: &Answers,
     unknown: &Wah,
     steps: &mut Steps<L>,
@@ -127,8 +127,9 @@ fn second_stage<S: Store, C: Conditions, L: Ledger>(
     requires atoms { atoms.now ≡ atoms_of plan.now }
     requires fits { AllByRecursion (C.fits conditions.now) (atoms_of plan.now) }
     requires few { length atoms.now < 2 ^ 32 }
-    requires open { AreOpen (C.is_open conditions.now (S.files store.old)) atoms.now stage.now.open.items }
-    requires columns { length stage.now.open.items ≡ length atoms.now }
+    requires limit { C.rows conditions.now ≤ most_bits }
+    requires opened { AreOpen (C.is_open conditions.now (S.files store.old)) atoms.now stage.now.opened.items }
+    requires number_opened { length stage.now.opened.items ≡ length atoms.now }
     requires number { length stage.now.answers.items ≡ length atoms.now }
     requires length { All (λ a. length a ≡ C.rows conditions.now) stage.now.answers.items }
     requires whole { length whole.now ≡ C.rows conditions.now }
@@ -162,14 +163,14 @@ fn hits_of<S: Store, C: Conditions, L: Ledger>(
     conditions: &C,
     plan: &Plan,
     atoms: &Atoms,
-    stage: &FirstStage<C::Open>,
+    stage: &FirstStage<C::Column>,
     steps: &mut Steps<L>,
 ) -> Result<Hits, C::Fault>
     requires atoms { atoms.now ≡ atoms_of plan.now }
     requires fits { AllByRecursion (C.fits conditions.now) (atoms_of plan.now) }
     requires few { length atoms.now < 2 ^ 32 }
-    requires open { AreOpen (C.is_open conditions.now (S.files store.old)) atoms.now stage.now.open.items }
-    requires columns { length stage.now.open.items ≡ length atoms.now }
+    requires opened { AreOpen (C.is_open conditions.now (S.files store.old)) atoms.now stage.now.opened.items }
+    requires number_opened { length stage.now.opened.items ≡ length atoms.now }
     requires number { length stage.now.answers.items ≡ length atoms.now }
     requires length { All (λ a. length a ≡ C.rows conditions.now) stage.now.answers.items }
     requires settled { (m : Meaning) → C.means conditions.now (S.files store.old) m → stage.now.answers.items ≡ columns m.rows m.answer atoms.now }

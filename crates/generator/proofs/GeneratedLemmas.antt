@@ -1,5 +1,5 @@
 -- Lemmas on the records of a seed.
-use Rattle.std.proofs.Common.{◌/◌, ◌%◌, ◌-◌, ◌∙◌, ap, sym, codes, decimal, ◌≡◌, ◌<◌, ◌+◌, ◌*◌, ◌^◌, ◌≤◌, ℕ, zero, suc, Some, List, [], ◌∷◌, ◌++◌, length, slice_get, refl, arith, rules, append_assoc}
+use Rattle.std.proofs.Common.{◌/◌, ◌%◌, ◌-◌, ◌∙◌, ap, sym, codes, decimal, ◌≡◌, ◌<◌, ◌+◌, ◌^◌, ℕ, zero, suc, Some, List, [], ◌∷◌, ◌++◌, length, slice_get, refl, arith, rules, append_assoc}
 use Rattle.std.proofs.lemmas.Fmt.{decimal_digit}
 use Rattle.fb_types.specs.Cells.{CellFits, RecordFits}
 use Rattle.fb_types.specs.declared.cells.Cell.{Cell}

@@ -1,4 +1,3 @@
-use Rattle.std.proofs.Common.{arith}
 use Rattle.generator.proofs.GeneratedLemmas.{generated-at, generated-length}
 use Rattle.generator.proofs.laws.the_record_at_a_place.Goals as goal
 

@@ -177,17 +177,17 @@ parts_again asked tokens is =
     let p = parts_in asked tokens is in
     let lacks = λ (test : Token → Bool) (o : test (keyword (codes "order")) ≡ false) (l : test (keyword (codes "limit")) ≡ false). order_lacks test asked.order is.sorting is.ending is.order o (limit_lacks test asked.limit is.ending is.limit l) in
     let s : select_at (is.selecting ++ (is.choosing ++ behind)) ≡ Some (asked.select, is.choosing ++ behind) =
-        select_again asked.select is.selecting (is.choosing ++ behind) is.select
-        (where_lacks (is_word (codes "select")) asked.clause is.choosing behind is.clause refl (lacks (is_word (codes "select")) refl refl))
-        (where_lacks is_comma asked.clause is.choosing behind is.clause refl (lacks is_comma refl refl)) in
+    select_again asked.select is.selecting (is.choosing ++ behind) is.select
+    (where_lacks (is_word (codes "select")) asked.clause is.choosing behind is.clause refl (lacks (is_word (codes "select")) refl refl))
+    (where_lacks is_comma asked.clause is.choosing behind is.clause refl (lacks is_comma refl refl)) in
     let w : where_at (is.choosing ++ behind) ≡ (p.clause, behind) =
-        where_again p.clause asked.clause is.choosing behind (clause_tokens-are asked.clause is.choosing is.clause) is.clause
-        (lacks (is_word (codes "where")) refl refl) (order_ends asked.order is.sorting is.ending is.order (limit_ends asked.limit is.ending is.limit)) in
+    where_again p.clause asked.clause is.choosing behind (clause_tokens-are asked.clause is.choosing is.clause) is.clause
+    (lacks (is_word (codes "where")) refl refl) (order_ends asked.order is.sorting is.ending is.order (limit_ends asked.limit is.ending is.limit)) in
     let o : order_at behind ≡ Some (asked.order, is.ending) =
-        order_again asked.order is.sorting is.ending is.order
-        (limit_lacks (is_word (codes "order")) asked.limit is.ending is.limit refl)
-        (limit_lacks is_comma asked.limit is.ending is.limit refl)
-        (record { no_asc = limit_lacks (is_word (codes "asc")) asked.limit is.ending is.limit refl; no_desc = limit_lacks (is_word (codes "desc")) asked.limit is.ending is.limit refl }) in
+    order_again asked.order is.sorting is.ending is.order
+    (limit_lacks (is_word (codes "order")) asked.limit is.ending is.limit refl)
+    (limit_lacks is_comma asked.limit is.ending is.limit refl)
+    (record { no_asc = limit_lacks (is_word (codes "asc")) asked.limit is.ending is.limit refl; no_desc = limit_lacks (is_word (codes "desc")) asked.limit is.ending is.limit refl }) in
     let l : limit_at is.ending ≡ Some (asked.limit, []) = limit_again asked.limit is.ending is.limit in
     let e : ended p [] ≡ Some p = ended_again p is.shown in
     ap parts_of is.cut ∙ rw (s, w, o, l) e

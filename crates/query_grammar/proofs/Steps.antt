@@ -1,11 +1,11 @@
 -- Items behind commas, one step at a time.
-use Rattle.std.proofs.Common.{◌≡◌, ℕ, zero, suc, ◌≤◌, ◌<◌, Bool, true, false, cond, List, [], ◌∷◌, ◌++◌, length, refl, sym, ap, ◌∙◌, arith}
+use Rattle.std.proofs.Common.{◌≡◌, ℕ, zero, suc, ◌≤◌, ◌<◌, Bool, true, false, cond, List, [], ◌∷◌, ◌++◌, length, refl, sym, ap, ◌∙◌, append-nil, arith}
 use Rattle.std.specs.Prelude.{Option, Some, None}
 use Rattle.std.specs.Option.{option_map, option_and_then}
 use Rattle.where_grammar.specs.declared.token.Token.{Token}
 use Rattle.where_grammar.specs.Grammar.{comma}
 use Rattle.where_grammar.specs.Parsing.{At, after}
-use Rattle.where_grammar.proofs.Lists.{item_then, with_item}
+use Rattle.where_grammar.proofs.Lists.{item_then, put-with, put_items, with_item}
 use Rattle.where_grammar.proofs.TokenTests.{after_told}
 use Rattle.query_grammar.specs.Reading.{is_comma, listed_at, more_behind, more_within}
 use Rattle.query_grammar.specs.Shorter.{Shrinks}
@@ -48,3 +48,25 @@ listed-some part tokens x rest e = ap (option_and_then (λ first. more_behind pa
 
 pub listed-none : {A : Type 0} (part : At A) (tokens : List Token) → part tokens ≡ None → listed_at part tokens ≡ None
 listed-none part tokens e = ap (option_and_then (λ first. more_behind part first.0 first.1)) e
+
+-- ---- the walk over a list, with the items that it has
+
+pub walk_step : {A : Type 0} (part : At A) → Shrinks part → (list more : List A) (tokens rest behind behind_item : List Token) (item : A) → after is_comma rest ≡ Some behind → part behind ≡ Some (item, behind_item) → more ≡ list ++ item ∷ []
+    → put_items list (more_here part rest) ≡ listed_at part tokens → put_items more (more_here part behind_item) ≡ listed_at part tokens
+walk_step part shrinks list more tokens rest behind behind_item item comma found pushed so_far =
+    ap (λ xs. put_items xs (more_here part behind_item)) pushed
+    ∙ (sym (put-with list item (more_here part behind_item))
+    ∙ (ap (put_items list) (sym (listed-some part behind item behind_item found) ∙ sym (more_here-comma part shrinks rest behind comma)) ∙ so_far))
+
+pub walk_smaller : {A : Type 0} (part : At A) → Shrinks part → (rest behind behind_item : List Token) (item : A) → after is_comma rest ≡ Some behind → part behind ≡ Some (item, behind_item) → length behind_item < length rest
+walk_smaller part shrinks rest behind behind_item item comma found =
+    let h = after_told is_comma rest behind comma in
+    let longer : length rest ≡ length (h.token ∷ behind) = ap length h.cut in
+    let less = shrinks behind (item, behind_item) found in
+    omega arith
+
+pub walk_ends : {A : Type 0} (part : At A) (list : List A) (tokens rest : List Token) → after is_comma rest ≡ None → put_items list (more_here part rest) ≡ listed_at part tokens → Some (list, rest) ≡ listed_at part tokens
+walk_ends part list tokens rest none so_far = sym (ap (put_items list) (more_here-none part rest none) ∙ ap (λ xs. Some (xs, rest)) (append-nil list)) ∙ so_far
+
+pub walk_fails : {A : Type 0} (part : At A) → Shrinks part → (list : List A) (tokens rest behind : List Token) → after is_comma rest ≡ Some behind → part behind ≡ None → put_items list (more_here part rest) ≡ listed_at part tokens → None ≡ listed_at part tokens
+walk_fails part shrinks list tokens rest behind comma none so_far = sym (ap (put_items list) (more_here-comma part shrinks rest behind comma ∙ listed-none part behind none)) ∙ so_far

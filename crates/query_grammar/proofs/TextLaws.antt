@@ -131,11 +131,11 @@ kept_long : (asked : Asked) (tokens : List Placed) → has_long_list asked token
 kept_long asked tokens long = let l : has_long_list asked tokens ≡ true = long in rw l refl
 
 kept_no : (asked : Asked) (tokens : List Placed) → has_long_list asked tokens ≡ false → is_limit_or_none asked.limit ≡ false → kept asked tokens ≡ Err kind.Literal
-kept_no asked tokens short no = let s : has_long_list asked tokens ≡ false = short in rw s (limited_no asked asked.limit no)
+kept_no asked tokens short is_no = let s : has_long_list asked tokens ≡ false = short in rw s (limited_no asked asked.limit is_no)
 
 pub no_query_read : (text : List ℕ) (k : QueryKind) → NoQuery text k → read_query text ≡ Err k
 unfolding read_query
 no_query_read text _ (no_tokens k none) = ap read_by (laws.no_tokens text k none)
 no_query_read text _ (no_query tokens has none) = ap read_by (has_tokens text tokens has) ∙ ap (kept_if_read tokens) (is_none (bare tokens) (query_of (bare tokens)) refl none)
 no_query_read text _ (long_list tokens asked has is long) = read_again text tokens asked has is ∙ kept_long asked tokens long
-no_query_read text _ (no_limit tokens asked has is short no) = read_again text tokens asked has is ∙ kept_no asked tokens short no
+no_query_read text _ (no_limit tokens asked has is short is_no) = read_again text tokens asked has is ∙ kept_no asked tokens short is_no

@@ -1,10 +1,12 @@
 -- Which query a text spells, and what is said of a text that spells none.
 use Rattle.std.specs.Prelude.{◌≡◌, ◌≤◌, ℕ, Bool, true, false, ◌||◌, nat_le, nat_lt, is_some, if◌then◌else◌, List, length, Option, Some, None, Result, Ok, Err, ℤ, pos, negsuc, option_map}
+use Rattle.where_grammar.specs.declared.clause.Clause.{Clause}
 use Rattle.where_grammar.specs.declared.clause.QueryKind.{QueryKind}
 use Rattle.where_grammar.specs.declared.clause.QueryKind.TheVariants as kind
 use Rattle.where_grammar.specs.declared.token.Placed.{Placed}
+use Rattle.where_grammar.specs.declared.token.Token.{Token}
 use Rattle.where_grammar.specs.Language.{HasTokens, NoTokens, read_tokens}
-use Rattle.where_grammar.specs.Parsing.{bare, long_of}
+use Rattle.where_grammar.specs.Parsing.{bare, clause_of, long_of}
 use Rattle.query_grammar.specs.declared.query.Item.{Item}
 use Rattle.query_grammar.specs.declared.query.Query.{Query}
 use Rattle.query_grammar.specs.declared.query.Asked.{Asked}
@@ -83,3 +85,12 @@ read_query text = read_by (read_tokens text)
 abbrev pub asked_or_refused : Option Asked → Result Asked QueryKind
 asked_or_refused None = Err kind.Syntax
 asked_or_refused (Some asked) = Ok asked
+
+-- the clause of tokens, where there are any, or the refusal
+abbrev pub clause_or_refused : Option (List Token) → Result (Option Clause) QueryKind
+clause_or_refused None = Ok None
+clause_or_refused (Some tokens) = read_or_refused (clause_of tokens)
+  where
+    read_or_refused : Option Clause → Result (Option Clause) QueryKind
+    read_or_refused None = Err kind.Syntax
+    read_or_refused (Some c) = Ok (Some c)

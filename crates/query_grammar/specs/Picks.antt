@@ -1,6 +1,7 @@
 -- What a query selects, under a schema.
 use Rattle.std.specs.Prelude.{◌≡◌, ◌<◌, ℕ, Bool, true, false, is_some, List, [], ◌∷◌, length, Option, Some, None, option_map, slice_get, position}
 use Rattle.std.specs.List.{AllByRecursion, AllZip, list_any}
+use Rattle.std.specs.Option.{option_and_then}
 use Rattle.std.specs.Str.{bytes_eq}
 use Rattle.fb_types.specs.declared.schemas.Column.{Column}
 use Rattle.fb_types.specs.declared.types.ColType.{ColType}
@@ -33,15 +34,14 @@ same_item (item.Greatest name) (item.Greatest other) = bytes_eq name other
 same_item (item.Sum name) (item.Sum other) = bytes_eq name other
 same_item _ _ = false
 
--- the type of the column at a place
-abbrev pub type_at : List Column → ℕ → Option ColType
-type_at columns col = option_map (λ column. column.ty) (slice_get columns col)
+-- the place and the type of the column of that name
+abbrev pub column_named : List Column → List ℕ → Option (ℕ × ColType)
+column_named columns name = option_and_then (λ col. option_map (λ column. (col, column.ty)) (slice_get columns col)) (place_of columns name)
 
 -- the column of that name stands there and is one of whole numbers
 pub record IsOfNumbers (columns : List Column) (name : List ℕ) (col : ℕ) : Type 0 where
-  pub place : place_of columns name ≡ Some col
   pub ty : ColType
-  pub there : type_at columns col ≡ Some ty
+  pub named : column_named columns name ≡ Some (col, ty)
   pub number : is_some (ends_of ty) ≡ true
 
 -- an item with its column's place for the name

@@ -1,7 +1,6 @@
 -- Why a query selects nothing under a schema: the first item that doesn't fit.
-use Rattle.std.specs.Prelude.{◌≡◌, ℕ, is_some, if◌then◌else◌, List, [], ◌∷◌, ◌++◌, map, Option, Some, None, Result, IfErr, option_map}
+use Rattle.std.specs.Prelude.{◌≡◌, ℕ, is_some, if◌then◌else◌, List, [], ◌∷◌, ◌++◌, map, Option, Some, None, Result, IfErr}
 use Rattle.std.specs.List.{list_any}
-use Rattle.std.specs.Option.{option_and_then}
 use Rattle.answers.specs.Answers.{Tells}
 use Rattle.fb_types.specs.declared.schemas.Column.{Column}
 use Rattle.fb_types.specs.declared.types.ColType.{ColType}
@@ -15,7 +14,7 @@ use Rattle.query_grammar.specs.declared.picking.SelectKind.{SelectKind}
 use Rattle.query_grammar.specs.declared.picking.SelectKind.TheVariants as kind
 use Rattle.query_grammar.specs.declared.picking.SelectFault.{SelectFault}
 use Rattle.query_grammar.specs.declared.picking.SelectFault.TheVariants as fault
-use Rattle.query_grammar.specs.Picks.{same_item, type_at}
+use Rattle.query_grammar.specs.Picks.{column_named, same_item}
 
 -- the schema has no column of the name
 abbrev pub unknown_refusal : List Column → List ℕ → Option SelectKind
@@ -23,11 +22,11 @@ unknown_refusal columns name = if is_some (place_of columns name) then None else
 
 -- the schema has no column of the name, or one that isn't of whole numbers
 abbrev pub number_refusal : List Column → List ℕ → Option SelectKind
-number_refusal columns name = refusal_at (option_and_then (type_at columns) (place_of columns name))
+number_refusal columns name = refusal_at (column_named columns name)
   where
-    refusal_at : Option ColType → Option SelectKind
+    refusal_at : Option (ℕ × ColType) → Option SelectKind
     refusal_at None = Some (kind.Unknown name)
-    refusal_at (Some ty) = if is_some (ends_of ty) then None else Some (kind.WrongType name)
+    refusal_at (Some found) = if is_some (ends_of found.1) then None else Some (kind.WrongType name)
 
 abbrev pub item_refusal : List Column → Item → Option SelectKind
 item_refusal columns (item.Plain name) = unknown_refusal columns name

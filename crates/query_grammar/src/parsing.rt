@@ -12,14 +12,14 @@ ghost use Rattle.where_grammar.specs.Parsing.{bare};
 ghost use Rattle.query_grammar.specs.declared.query.Asked.{Asked};
 ghost use Rattle.query_grammar.specs.declared.query.Query.{Query};
 ghost use Rattle.query_grammar.specs.Grammar.{IsQuery};
-ghost use Rattle.query_grammar.specs.Language.{NoQuery, SpellsQuery, asked_or_refused, has_long_list, is_long, is_long_select, kept, limited, read_query};
-ghost use Rattle.query_grammar.specs.Reading.{parts_of, ended, only_rows, ordered_parts, query_of, seen_parts, seen_where};
+ghost use Rattle.query_grammar.specs.Language.{NoQuery, SpellsQuery, asked_or_refused, clause_or_refused, has_long_list, is_long, is_long_select, kept, limited, read_query};
+ghost use Rattle.query_grammar.specs.Reading.{parts_of, ended, filled, only_rows, ordered_parts, query_of, seen_parts, seen_where};
 
 use crate::fronts::{limit_at, order_at, select_at, where_at};
 use crate::query::{Asked, Item, OrderItem, Query};
 use sqlite_items::Items;
 use std::alloc::{AllocError, Global};
-use where_grammar::{ClauseFault, Placed, QueryKind, clause_of, long_of, tokens};
+use where_grammar::{Clause, ClauseFault, Placed, QueryKind, clause_of, long_of, tokens};
 
 /// A query whose clause is still tokens.
 #[derive(Drop)]
@@ -75,24 +75,49 @@ fn parts_of(alloc: Global, tokens: &[Placed]) -> Result<Option<PartsRead<'_>>, A
     ordered_parts(alloc, select, clause, rest)
 }
 
+/// The clause of a query, where it has one.
+fn clause_in(alloc: Global, tokens: Option<&[Placed]>) -> Result<Option<Clause>, ClauseFault>
+    requires { IfSome (seen_where tokens.entry) (λ clause. is_crowded most_open clause ≡ false) }
+    ensures { Answers refusal result (clause_or_refused (seen_where tokens.entry)) }
+{
+    match tokens {
+        Some(tokens) => {
+            let read = clause_of(alloc, tokens)?;
+            Ok(Some(read.clause))
+        }
+        None => Ok(None),
+    }
+}
+
+/// The query of these parts.
+fn asked_of(alloc: Global, parts: PartsRead<'_>) -> Result<Asked, ClauseFault>
+    requires { IfSome (seen_where parts.entry.clause) (λ clause. is_crowded most_open clause ≡ false) }
+    ensures { Answers refusal result (asked_or_refused (filled (seen_parts parts.entry) (seen_where parts.entry.clause))) }
+{
+    let PartsRead {
+        select,
+        clause,
+        order,
+        limit,
+    } = parts;
+    let clause = clause_in(alloc, clause)?;
+    Ok(Asked {
+        select,
+        clause,
+        order,
+        limit,
+    })
+}
+
 /// The query that the tokens are.
 fn asked_by(alloc: Global, tokens: &[Placed]) -> Result<Asked, ClauseFault>
     requires { is_crowded most_open (bare tokens.now) ≡ false }
     ensures { Answers refusal result (asked_or_refused (query_of (bare tokens.now))) }
 {
-    let Some(parts) = parts_of(alloc, tokens)? else {
-        return Err(syntax());
-    };
-    let clause = match parts.clause {
-        Some(tokens) => Some(clause_of(alloc, tokens)?.clause),
-        None => None,
-    };
-    Ok(Asked {
-        select: parts.select,
-        clause,
-        order: parts.order,
-        limit: parts.limit,
-    })
+    match parts_of(alloc, tokens)? {
+        Some(parts) => asked_of(alloc, parts),
+        None => Err(syntax()),
+    }
 }
 
 fn syntax() -> ClauseFault

@@ -5,12 +5,12 @@ ghost use Rattle.std.specs.List.{list_any};
 ghost use Rattle.answers.specs.Answers.{Answers, Tells};
 ghost use Rattle.query_grammar.specs.declared.picking.Pick.{Pick};
 ghost use Rattle.query_grammar.specs.declared.picking.SelectKind.{SelectKind};
-ghost use Rattle.query_grammar.specs.Picks.{ArePicked, ArePlaced, IsOfNumbers, IsPicked, IsPickOf, IsSoundPick, is_aggregate, same_item};
-ghost use Rattle.query_grammar.specs.Refusals.{TellsRefusal, first_some, item_refusal, number_refusal, order_refusal, refusal, select_refusal, unknown_refusal};
+ghost use Rattle.query_grammar.specs.Picks.{ArePicked, ArePlaced, IsOfNumbers, IsPick, IsPicked, IsPickOf, IsSoundPick, column_named, is_aggregate, same_item};
+ghost use Rattle.query_grammar.specs.Refusals.{TellsRefusal, first_some, item_refusal, list_refusal, number_refusal, order_refusal, refusal, select_refusal, unknown_refusal};
 ghost use Rattle.fb_types.specs.Schemas.{place_of};
 
 use crate::query::{Item, OrderItem, Query};
-use fb_types::{ColName, Schema};
+use fb_types::{ColName, ColType, Schema};
 use sqlite_items::{Items, at};
 use std::alloc::{AllocError, Global};
 use thiserror::Error;
@@ -109,17 +109,40 @@ fn column_place(alloc: Global, name: &ColName, schema: &Schema) -> Result<usize,
     }
 }
 
+/// The place and the type of the column of that name.
+fn column_named(schema: &Schema, name: &[u8]) -> Option<(usize, ColType)>
+    ensures { result ≡ column_named schema.now name.now }
+{
+    let col = schema.place(name)?;
+    let column = at(schema.columns(), col)?;
+    Some((col, column.ty))
+}
+
+/// The place of a column, where its type is one of whole numbers.
+fn number_at(
+    alloc: Global,
+    name: &ColName,
+    schema: &Schema,
+    col: usize,
+    ty: ColType,
+) -> Result<usize, SelectFault>
+    requires { column_named schema.now name.now ≡ Some (col, ty) }
+    ensures found { IfOk result (IsOfNumbers schema.now name.now) }
+    ensures refused { TellsRefusal (number_refusal schema.now name.now) result }
+{
+    match ty.ends() {
+        Some(_) => Ok(col),
+        None => Err(wrong_type(alloc, name)),
+    }
+}
+
 /// The place of a column of whole numbers.
 fn number_place(alloc: Global, name: &ColName, schema: &Schema) -> Result<usize, SelectFault>
     ensures found { IfOk result (IsOfNumbers schema.now name.now) }
     ensures refused { TellsRefusal (number_refusal schema.now name.now) result }
 {
-    let Some(col) = schema.place(name.bytes()) else {
-        return Err(unknown(alloc, name));
-    };
-    match at(schema.columns(), col) {
-        Some(column) if column.ty.ends().is_some() => Ok(col),
-        Some(_) => Err(wrong_type(alloc, name)),
+    match column_named(schema, name.bytes()) {
+        Some((col, ty)) => number_at(alloc, name, schema, col, ty),
         None => Err(unknown(alloc, name)),
     }
 }
@@ -190,6 +213,39 @@ fn is_grouped(items: &[Item]) -> bool
     items.iter().any(|item| item.is_aggregate())
 }
 
+/// What items and an order select under a schema.
+fn pick_of(
+    alloc: Global,
+    items: &[Item],
+    order: &[OrderItem],
+    limit: Option<u64>,
+    schema: &Schema,
+) -> Result<Pick, SelectFault>
+    ensures found { IfOk result (IsPick schema.now items.now order.now limit) }
+    ensures refused { TellsRefusal (list_refusal schema.now (Some items.now) order.now) result }
+{
+    Ok(Pick {
+        items: all_picked(alloc, items, schema)?,
+        order: all_placed(alloc, items, order)?,
+        limit,
+        grouped: is_grouped(items),
+    })
+}
+
+fn resolved(alloc: Global, query: &Query, schema: &Schema) -> Result<Option<Pick>, SelectFault>
+    ensures found { IfOk result (IsPickOf schema.now query.now) }
+    ensures refused { TellsRefusal (select_refusal schema.now query.now) result }
+{
+    match &query.select {
+        None => Ok(None),
+        Some(items) => {
+            let order = query.order.as_slice();
+            let pick = pick_of(alloc, items.as_slice(), order, query.limit, schema)?;
+            Ok(Some(pick))
+        }
+    }
+}
+
 /// What a query selects under a schema, None where it has no select list. It is refused for its first item whose column
 /// isn't in the schema, as `Unknown`, or isn't of whole numbers though it is of `min`, `max` or `sum`, as `WrongType`;
 /// then for its first order item that isn't in the select list, as `NotSelected`.
@@ -209,15 +265,5 @@ pub fn resolve_select(
 
     ensures sound { IfOk result (λ picked. IfSome picked IsSoundPick) }
 {
-    let Some(items) = &query.select else {
-        return Ok(None);
-    };
-    let picks = all_picked(alloc, items.as_slice(), schema)?;
-    let order = all_placed(alloc, items.as_slice(), query.order.as_slice())?;
-    Ok(Some(Pick {
-        items: picks,
-        order,
-        limit: query.limit,
-        grouped: is_grouped(items.as_slice()),
-    }))
+    resolved(alloc, query, schema)
 }

@@ -9,7 +9,7 @@ use Rattle.query_grammar.specs.declared.picking.PickItem.{PickItem}
 use Rattle.query_grammar.specs.declared.picking.PickItem.TheVariants as pick
 use Rattle.query_grammar.specs.declared.picking.Pick.{Pick}
 use Rattle.query_grammar.specs.Picks.{is_total}
-use Rattle.select_group.specs.Order.{rising_keys, sorted}
+use Rattle.select_group.specs.Order.{comes_before, rising_keys, sorted}
 use Rattle.select_group.specs.Rows.{cells_eq, first_cell, other_cells, number_in, number_cell}
 
 -- ---- groups
@@ -57,4 +57,4 @@ first_rows (Some n) rows = take n rows
 
 -- the records' rows or those of their groups, in the order of the order items, the first of them
 abbrev pub answer_of : Pick → List (List Cell) → List (List Cell)
-answer_of p rows = first_rows p.limit (sorted p.order (if p.grouped then groups_of p.items rows else rows))
+answer_of p rows = first_rows p.limit (sorted (comes_before p.order) (if p.grouped then groups_of p.items rows else rows))

@@ -1,8 +1,9 @@
 -- Rows in the order of a query, and the keys of groups in theirs.
 use Rattle.std.specs.Prelude.{ℕ, Bool, if◌then◌else◌, List, [], ◌∷◌, slice_index_or}
 use Rattle.std.specs.Ordering.{is_lt, ordering_reverse, ordering_then}
+use Rattle.std.specs.BTreeSet.{insert_key}
 use Rattle.std.specs.declared.cmp.Ordering.{Ordering}
-use Rattle.std.specs.declared.cmp.Ordering.TheVariants.{Less, Equal, Greater}
+use Rattle.std.specs.declared.cmp.Ordering.TheVariants.{Equal}
 use Rattle.fb_types.specs.declared.cells.Cell.{Cell}
 use Rattle.fb_types.specs.declared.cells.Cell.TheVariants.{Null}
 use Rattle.query_grammar.specs.declared.picking.OrderPlace.{OrderPlace}
@@ -10,20 +11,10 @@ use Rattle.select_group.specs.Rows.{cell_cmp, cells_cmp}
 
 -- ---- keys
 
-abbrev pub put_by : Ordering → List Cell → List Cell → List (List Cell) → List (List Cell) → List (List Cell)
-put_by Less key k keys behind = key ∷ k ∷ keys
-put_by Equal key k keys behind = k ∷ keys
-put_by Greater key k keys behind = k ∷ behind
-
--- a key put into rising keys that may have it
-abbrev pub put_key : List Cell → List (List Cell) → List (List Cell)
-put_key key [] = key ∷ []
-put_key key (k ∷ keys) = put_by (cells_cmp key k) key k keys (put_key key keys)
-
 -- the keys of a list in rising order, each once
 abbrev pub rising_keys : List (List Cell) → List (List Cell)
 rising_keys [] = []
-rising_keys (key ∷ keys) = put_key key (rising_keys keys)
+rising_keys (key ∷ keys) = insert_key cells_cmp (rising_keys keys) key
 
 -- ---- rows
 
@@ -40,12 +31,14 @@ row_cmp (by ∷ order) a b =
 abbrev pub comes_before : List OrderPlace → List Cell → List Cell → Bool
 comes_before order a b = is_lt (row_cmp order a b)
 
--- a row put into rows in order, behind those that come before it
-abbrev pub put_row : List OrderPlace → List Cell → List (List Cell) → List (List Cell)
-put_row order row [] = row ∷ []
-put_row order row (r ∷ rows) = if comes_before order r row then r ∷ put_row order row rows else row ∷ r ∷ rows
+-- ---- sorting
 
--- the rows in order; those that tie stay in theirs
-abbrev pub sorted : List OrderPlace → List (List Cell) → List (List Cell)
-sorted order [] = []
-sorted order (row ∷ rows) = put_row order row (sorted order rows)
+-- x put into a list in order, behind those that come before it
+abbrev pub put_in : {X : Type 0} → (X → X → Bool) → X → List X → List X
+put_in before x [] = x ∷ []
+put_in before x (y ∷ ys) = if before y x then y ∷ put_in before x ys else x ∷ y ∷ ys
+
+-- a list in order; those that tie stay in theirs
+abbrev pub sorted : {X : Type 0} → (X → X → Bool) → List X → List X
+sorted before [] = []
+sorted before (x ∷ xs) = put_in before x (sorted before xs)

@@ -3,7 +3,7 @@
 ghost use Rattle.std.specs.Prelude.{◌≡◌, slice_index_or, OnOk};
 ghost use Rattle.fb_types.specs.declared.cells.Cell.TheVariants.{Null};
 ghost use Rattle.select_group.specs.Answer.{first_rows};
-ghost use Rattle.select_group.specs.Order.{directed, row_cmp, sorted};
+ghost use Rattle.select_group.specs.Order.{comes_before, directed, row_cmp, sorted};
 
 use crate::cells::cell_cmp;
 use fb_types::Cell;
@@ -49,7 +49,7 @@ pub(crate) fn sort_rows(
     order: &[OrderPlace],
     rows: &mut Vec<Items<Cell>>,
 ) -> Result<(), AllocError>
-    ensures { OnOk result (rows.new.items ≡ sorted order.now rows.old.items) }
+    ensures { OnOk result (rows.new.items ≡ sorted (comes_before order.now) rows.old.items) }
 {
     rows.as_mut_slice().sort_by(alloc, |a: &Items<Cell>, b: &Items<Cell>| -> Ordering
         ensures { result ≡ row_cmp order.now a.now b.now }

@@ -1,0 +1,4 @@
+pub mod Rising
+pub mod Stable
+pub mod TotalLemmas
+pub mod GroupLemmas

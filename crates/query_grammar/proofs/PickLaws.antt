@@ -153,15 +153,15 @@ place_same items by a b is also =
 -- whether an element passes, by the length of the front that doesn't
 position_by : {A : Type 0} (p : A → Bool) (xs : List A) → nat_lt (prefix_len (λ x. not (p x)) xs) (length xs) ≡ list_any p xs
 position_by p [] = refl
-position_by p (x ∷ xs) = by (p x)
+position_by p (x ∷ xs) = by (p x) (position_by p xs)
   where
     less : (m n : ℕ) (b : Bool) → nat_lt m n ≡ b → nat_lt (1 + m) (suc n) ≡ b
     less m n true e = grind (arith, nat_tests)
     less m n false e = grind (arith, nat_tests)
 
-    by : (b : Bool) → nat_lt (cond (not b) (1 + prefix_len (λ y. not (p y)) xs) 0) (length (x ∷ xs)) ≡ (b || list_any p xs)
-    by true = grind (arith, nat_tests)
-    by false = less (prefix_len (λ y. not (p y)) xs) (length xs) (list_any p xs) (position_by p xs)
+    by : (b : Bool) → nat_lt (prefix_len (λ y. not (p y)) xs) (length xs) ≡ list_any p xs → nat_lt (cond (not b) (1 + prefix_len (λ y. not (p y)) xs) 0) (length (x ∷ xs)) ≡ (b || list_any p xs)
+    by true e = grind (arith, nat_tests)
+    by false e = less (prefix_len (λ y. not (p y)) xs) (length xs) (list_any p xs) e
 
 position_some : {A : Type 0} (p : A → Bool) (xs : List A) (i : ℕ) → position p xs ≡ Some i → (list_any p xs ≡ true) × (i < length xs)
 position_some p xs i e =

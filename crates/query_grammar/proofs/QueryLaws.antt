@@ -1,17 +1,23 @@
 -- The query of tokens: found where there is one, and one alone.
 use Rattle.std.proofs.Common.{◌≡◌, ℕ, Bool, true, false, List, [], ◌∷◌, ◌++◌, refl, sym, ap, subst, ◌∙◌, ℤ}
-use Rattle.std.specs.Prelude.{Option, Some, None, codes}
+use Rattle.std.specs.Prelude.{Option, Some, None, Ok, Err, IfSome, codes}
 use Rattle.std.specs.Option.{option_map}
 use Rattle.where_grammar.specs.declared.clause.Clause.{Clause}
+use Rattle.where_grammar.specs.declared.clause.ClauseRead.{ClauseRead}
+use Rattle.where_grammar.specs.declared.clause.QueryKind.{QueryKind}
+use Rattle.where_grammar.specs.declared.clause.QueryKind.TheVariants as kind
+use Rattle.where_grammar.specs.declared.token.Placed.{Placed}
 use Rattle.where_grammar.specs.declared.token.Token.{Token}
+use Rattle.where_grammar.specs.Language.{clause_read}
 use Rattle.where_grammar.specs.Nesting.{is_crowded}
 use Rattle.where_grammar.specs.Grammar.{IsClause, keyword}
-use Rattle.where_grammar.specs.Parsing.{clause_of}
+use Rattle.where_grammar.specs.Parsing.{bare, clause_of, long_of}
 use Rattle.where_grammar.proofs.Readings.{clause_of-again, one_clause}
 use Rattle.query_grammar.specs.declared.query.Item.{Item}
 use Rattle.query_grammar.specs.declared.query.OrderItem.{OrderItem}
 use Rattle.query_grammar.specs.declared.query.Asked.{Asked}
 use Rattle.query_grammar.specs.Grammar.{IsQuery, IsWhere, all_records, those_of}
+use Rattle.query_grammar.specs.Language.{asked_or_refused, clause_or_refused, clause_or_syntax}
 use Rattle.query_grammar.specs.Reading.{Parts, filled, filled_if_read, parts, parts_of, query_of, with_clause}
 use Rattle.query_grammar.proofs.Told.{IsWhereOf, parts_told, query_told}
 use Rattle.query_grammar.proofs.Rooms.{crowd_front, crowd_select}
@@ -88,3 +94,44 @@ none_is tokens free none asked is = let found = query_again tokens asked is free
 pub is_none : (tokens : List Token) (o : Option Asked) → query_of tokens ≡ o → ((asked : Asked) → IsQuery asked tokens → ⊥) → o ≡ None
 is_none tokens None is none = refl
 is_none tokens (Some asked) is none = absurd (none asked (query_told tokens asked is))
+
+-- ---- steps of the code
+
+room_if : (clause : Option (List Token)) → ((inner : List Token) → clause ≡ Some inner → is_crowded 64 inner ≡ false) → IfSome clause (λ inner. is_crowded 64 inner ≡ false)
+room_if None free = tt
+room_if (Some inner) free = free inner refl
+
+pub parts_room_if : (tokens : List Token) (p : Parts) → parts_of tokens ≡ Some p → is_crowded 64 tokens ≡ false → IfSome p.clause (λ inner. is_crowded 64 inner ≡ false)
+parts_room_if tokens p e free = room_if p.clause (λ inner some. parts_room tokens p inner e some free)
+
+clause_on_by : (tokens : List Placed) (o : Option Clause) (read : ClauseRead) → clause_read tokens o ≡ Ok read → clause_or_syntax o ≡ Ok (Some read.clause)
+clause_on_by tokens None read e = absurd cc
+clause_on_by tokens (Some c) read e =
+    let same : record { clause = c; long = long_of tokens } ≡ read = cc in
+    ap (λ (r : ClauseRead). Ok (Some r.clause)) same
+
+pub clause_on : (tokens : List Placed) (read : ClauseRead) → clause_read tokens (clause_of (bare tokens)) ≡ Ok read → clause_or_refused (Some (bare tokens)) ≡ Ok (Some read.clause)
+clause_on tokens read e = clause_on_by tokens (clause_of (bare tokens)) read e
+
+clause_off_by : (tokens : List Placed) (o : Option Clause) (k : QueryKind) → clause_read tokens o ≡ Err k → clause_or_syntax o ≡ Err k
+clause_off_by tokens None k e = let same : kind.Syntax ≡ k = cc in ap Err same
+clause_off_by tokens (Some c) k e = absurd cc
+
+pub clause_off : (tokens : List Placed) (k : QueryKind) → clause_read tokens (clause_of (bare tokens)) ≡ Err k → clause_or_refused (Some (bare tokens)) ≡ Err k
+clause_off tokens k e = clause_off_by tokens (clause_of (bare tokens)) k e
+
+filled_on_by : (p : Parts) (o found : Option Clause) → clause_or_syntax o ≡ Ok found → asked_or_refused (option_map (λ c. with_clause p (Some c)) o) ≡ Ok (with_clause p found)
+filled_on_by p None found e = absurd cc
+filled_on_by p (Some c) found e = let same : Some c ≡ found = cc in ap (λ x. Ok (with_clause p x)) same
+
+pub filled_on : (p : Parts) (clause : Option (List Token)) (found : Option Clause) → clause_or_refused clause ≡ Ok found → asked_or_refused (filled p clause) ≡ Ok (with_clause p found)
+filled_on p None found e = let same : None ≡ found = cc in ap (λ x. Ok (with_clause p x)) same
+filled_on p (Some tokens) found e = filled_on_by p (clause_of tokens) found e
+
+filled_off_by : (p : Parts) (o : Option Clause) (k : QueryKind) → clause_or_syntax o ≡ Err k → asked_or_refused (option_map (λ c. with_clause p (Some c)) o) ≡ Err k
+filled_off_by p None k e = let same : kind.Syntax ≡ k = cc in ap Err same
+filled_off_by p (Some c) k e = absurd cc
+
+pub filled_off : (p : Parts) (clause : Option (List Token)) (k : QueryKind) → clause_or_refused clause ≡ Err k → asked_or_refused (filled p clause) ≡ Err k
+filled_off p None k e = absurd cc
+filled_off p (Some tokens) k e = filled_off_by p (clause_of tokens) k e

@@ -17,7 +17,7 @@ use Rattle.query_grammar.specs.declared.query.Asked.{Asked}
 use Rattle.query_grammar.specs.declared.query.Query.{Query}
 use Rattle.query_grammar.specs.Limits.{most_rows}
 use Rattle.query_grammar.specs.Grammar.{IsQuery}
-use Rattle.query_grammar.specs.Language.{NoQuery, SpellsQuery, as_asked, has_long_list, is_limit_or_none, kept, kept_if_read, limited, long_list, no_limit, no_query, no_tokens, read_by, read_query, with_limit}
+use Rattle.query_grammar.specs.Language.{NoQuery, SpellsQuery, as_asked, asked_or_refused, has_long_list, is_limit_or_none, kept, kept_if_read, limited, long_list, no_limit, no_query, no_tokens, read_by, read_query, with_limit}
 use Rattle.query_grammar.specs.Reading.{query_of}
 use Rattle.query_grammar.proofs.Told.{query_told}
 use Rattle.query_grammar.proofs.QueryLaws.{is_none, none_is, query_again}
@@ -139,3 +139,19 @@ no_query_read text _ (no_tokens k none) = ap read_by (laws.no_tokens text k none
 no_query_read text _ (no_query tokens has none) = ap read_by (has_tokens text tokens has) ∙ ap (kept_if_read tokens) (is_none (bare tokens) (query_of (bare tokens)) refl none)
 no_query_read text _ (long_list tokens asked has is long) = read_again text tokens asked has is ∙ kept_long asked tokens long
 no_query_read text _ (no_limit tokens asked has is short is_no) = read_again text tokens asked has is ∙ kept_no asked tokens short is_no
+
+-- ---- steps of the code
+
+read_on_by : (o : Option Asked) (asked : Asked) (tokens : List Placed) → asked_or_refused o ≡ Ok asked → kept_if_read tokens o ≡ kept asked tokens
+read_on_by None asked tokens e = absurd cc
+read_on_by (Some a) asked tokens e = let same : a ≡ asked = cc in ap (λ x. kept x tokens) same
+
+pub read_on : (tokens : List Placed) (asked : Asked) (r : Result Query ClauseFault) → asked_or_refused (query_of (bare tokens)) ≡ Ok asked → Answers refusal r (kept asked tokens) → Answers refusal r (kept_if_read tokens (query_of (bare tokens)))
+read_on tokens asked r e gives = laws.along r (kept asked tokens) (kept_if_read tokens (query_of (bare tokens))) gives (sym (read_on_by (query_of (bare tokens)) asked tokens e))
+
+read_off_by : (o : Option Asked) (k : QueryKind) (tokens : List Placed) → asked_or_refused o ≡ Err k → kept_if_read tokens o ≡ Err k
+read_off_by None k tokens e = let same : kind.Syntax ≡ k = cc in ap Err same
+read_off_by (Some a) k tokens e = absurd cc
+
+pub read_off : (tokens : List Placed) (k : QueryKind) → asked_or_refused (query_of (bare tokens)) ≡ Err k → kept_if_read tokens (query_of (bare tokens)) ≡ Err k
+read_off tokens k e = read_off_by (query_of (bare tokens)) k tokens e

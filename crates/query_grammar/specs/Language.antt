@@ -86,11 +86,11 @@ abbrev pub asked_or_refused : Option Asked → Result Asked QueryKind
 asked_or_refused None = Err kind.Syntax
 asked_or_refused (Some asked) = Ok asked
 
+abbrev pub clause_or_syntax : Option Clause → Result (Option Clause) QueryKind
+clause_or_syntax None = Err kind.Syntax
+clause_or_syntax (Some c) = Ok (Some c)
+
 -- the clause of tokens, where there are any, or the refusal
 abbrev pub clause_or_refused : Option (List Token) → Result (Option Clause) QueryKind
 clause_or_refused None = Ok None
-clause_or_refused (Some tokens) = read_or_refused (clause_of tokens)
-  where
-    read_or_refused : Option Clause → Result (Option Clause) QueryKind
-    read_or_refused None = Err kind.Syntax
-    read_or_refused (Some c) = Ok (Some c)
+clause_or_refused (Some tokens) = clause_or_syntax (clause_of tokens)

@@ -12,7 +12,7 @@ ghost use Rattle.where_grammar.specs.Parsing.{bare};
 ghost use Rattle.query_grammar.specs.declared.query.Asked.{Asked};
 ghost use Rattle.query_grammar.specs.declared.query.Query.{Query};
 ghost use Rattle.query_grammar.specs.Grammar.{IsQuery};
-ghost use Rattle.query_grammar.specs.Language.{NoQuery, SpellsQuery, asked_or_refused, clause_or_refused, has_long_list, is_long, is_long_select, kept, limited, read_query};
+ghost use Rattle.query_grammar.specs.Language.{NoQuery, SpellsQuery, asked_or_refused, clause_or_refused, has_long_list, is_long, is_long_select, kept, kept_if_read, limited, read_query};
 ghost use Rattle.query_grammar.specs.Reading.{parts_of, ended, filled, only_rows, ordered_parts, query_of, seen_parts, seen_where};
 
 use crate::fronts::{limit_at, order_at, select_at, where_at};
@@ -76,8 +76,9 @@ fn parts_of(alloc: Global, tokens: &[Placed]) -> Result<Option<PartsRead<'_>>, A
 }
 
 /// The clause of a query, where it has one.
+#[tactic(auto, using(crate::proofs::QueryLaws::clause_on, crate::proofs::QueryLaws::clause_off))]
 fn clause_in(alloc: Global, tokens: Option<&[Placed]>) -> Result<Option<Clause>, ClauseFault>
-    requires { IfSome (seen_where tokens.entry) (λ clause. is_crowded most_open clause ≡ false) }
+    requires { IfSome (seen_where tokens) (λ clause. is_crowded most_open clause ≡ false) }
     ensures { Answers refusal result (clause_or_refused (seen_where tokens.entry)) }
 {
     match tokens {
@@ -90,8 +91,9 @@ fn clause_in(alloc: Global, tokens: Option<&[Placed]>) -> Result<Option<Clause>,
 }
 
 /// The query of these parts.
+#[tactic(auto, using(crate::proofs::QueryLaws::filled_on, crate::proofs::QueryLaws::filled_off))]
 fn asked_of(alloc: Global, parts: PartsRead<'_>) -> Result<Asked, ClauseFault>
-    requires { IfSome (seen_where parts.entry.clause) (λ clause. is_crowded most_open clause ≡ false) }
+    requires { IfSome (seen_where parts.clause) (λ clause. is_crowded most_open clause ≡ false) }
     ensures { Answers refusal result (asked_or_refused (filled (seen_parts parts.entry) (seen_where parts.entry.clause))) }
 {
     let PartsRead {
@@ -110,6 +112,7 @@ fn asked_of(alloc: Global, parts: PartsRead<'_>) -> Result<Asked, ClauseFault>
 }
 
 /// The query that the tokens are.
+#[tactic(auto, unfolding(crate::specs::Reading::query_of))]
 fn asked_by(alloc: Global, tokens: &[Placed]) -> Result<Asked, ClauseFault>
     requires { is_crowded most_open (bare tokens.now) ≡ false }
     ensures { Answers refusal result (asked_or_refused (query_of (bare tokens.now))) }
@@ -182,13 +185,22 @@ fn kept(asked: Asked, tokens: &[Placed]) -> Result<Query, ClauseFault>
     limited(asked)
 }
 
+/// The query that the tokens are, where its lists and its limit are within the limits.
+#[tactic(auto, using(crate::proofs::TextLaws::read_on, crate::proofs::TextLaws::read_off))]
+fn query_by(alloc: Global, tokens: &[Placed]) -> Result<Query, ClauseFault>
+    requires { is_crowded most_open (bare tokens.now) ≡ false }
+    ensures { Answers refusal result (kept_if_read tokens.now (query_of (bare tokens.now))) }
+{
+    let asked = asked_by(alloc, tokens)?;
+    kept(asked, tokens)
+}
+
 #[tactic(auto, unfolding(crate::specs::Language::read_query))]
 fn parsed(alloc: Global, text: &str) -> Result<Query, ClauseFault>
     ensures { Answers refusal result (read_query text.now) }
 {
     let tokens = tokens(alloc, text)?;
-    let asked = asked_by(alloc, tokens.as_slice())?;
-    kept(asked, tokens.as_slice())
+    query_by(alloc, tokens.as_slice())
 }
 
 /// The query that the text is, or the first refusal: those of a clause's text; then `Syntax` where the tokens are no

@@ -9,4 +9,4 @@ returns-in-None-clause-refused c =
 
 pub loop-by-preserved : goal.loop-by-preserved
 loop-by-preserved c =
-    zip_step (IsPlaced c.args.items.now) c.args.order.now c.loop-by.places c.push.new.self c.loop-by.by-index c.by-item.result (record { place = c.in-Some.place; down = c.by-item.result.down }) c.loop-by-test.true c.by-item.is c.loop-by.invariant (sym c.place_in.ensures ∙ c.in-Some.is, refl) c.in_ok-push.ensures.ok
+    zip_step (IsPlaced c.args.items.now) c.args.order.now c.loop-by.places c.push.new.self c.loop-by.by-index c.by-item.result (record { place = c.in-Some.place; down = c.by-item.result.down }) c.loop-by-test.true c.by-item.is c.loop-by.invariant (sym c.place_in.ensures ∙ c.in-Some.is, refl) c.in_ok-push-in-Some.ensures.ok

@@ -85,8 +85,8 @@ pub groups_told : (items : List PickItem) (rows : List (List Cell)) (es : List (
 groups_told items rows es sorted distinct found =
     let rises = rises_from_sorted cells_cmp-total cells_cmp-same (keys_of es) [] sorted distinct in
     let keys : keys_of es ≡ rising_keys (map (key_of items) rows) =
-        rising_same cells_cmp-total cells_cmp-same (keys_of es) (rising_keys (map (key_of items) rows)) rises (keys_rise (map (key_of items) rows))
-        (λ q. sym (is_some-lookup (cells_eq q) es) ∙ (ap is_some (found q) ∙ (totals_there items q rows ∙ sym (keys_members q (map (key_of items) rows))))) in
+    rising_same cells_cmp-total cells_cmp-same (keys_of es) (rising_keys (map (key_of items) rows)) rises (keys_rise (map (key_of items) rows))
+    (λ q. sym (is_some-lookup (cells_eq q) es) ∙ (ap is_some (found q) ∙ (totals_there items q rows ∙ sym (keys_members q (map (key_of items) rows))))) in
     rows_from items rows [] es distinct found ∙ ap (map (row_of items rows)) keys
 
 -- ---- one record more

@@ -1,10 +1,10 @@
 //! Records gathered into the rows of an answer.
 
-ghost use Rattle.std.specs.Prelude.{◌≡◌, ◌+◌, ◌<◌, ◌≤◌, ◌^◌, ◌++◌, ◌∷◌, [], if◌then◌else◌, List, Some, length, map, IfOk, OnOk, OnErr};
+ghost use Rattle.std.specs.Prelude.{◌≡◌, ◌+◌, ◌<◌, ◌≤◌, ◌^◌, ◌++◌, ◌∷◌, [], if◌then◌else◌, List, Some, filter, length, map, IfOk, OnOk, OnErr};
 ghost use Rattle.fb_types.specs.declared.cells.Cell.{Cell};
 ghost use Rattle.std.specs.HashMap.{get};
-ghost use Rattle.select_group.specs.Answer.{answer_of, groups_of, key_of};
-ghost use Rattle.select_group.specs.Gathered.{CanBeAdded, Gathered};
+ghost use Rattle.select_group.specs.Answer.{answer_of, groups_of, has_key, key_of};
+ghost use Rattle.select_group.specs.Gathered.{CanBeAdded, Gathered, totals_if};
 ghost use Rattle.select_group.specs.Rows.{cells_eq};
 ghost use Rattle.select_group.specs.Totals.{AllFit, grown, numbers_of};
 
@@ -70,6 +70,9 @@ fn group_rows(
     items: &[PickItem],
 ) -> Result<Vec<Items<Cell>>, AllocError>
     requires fits { AllFit items.now (2 ^ 32) groups }
+    ensures { IfOk result (λ rows. (records : List (List Cell))
+        → ((key : List Cell) → get cells_eq groups key ≡ totals_if items.now (filter (has_key items.now key) records))
+        → rows.items ≡ groups_of items.now records) }
 {
     let mut groups = groups;
     groups.sort_unstable_keys()?;

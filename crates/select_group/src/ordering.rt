@@ -35,7 +35,10 @@ fn row_cmp(order: &[OrderPlace], a: &[Cell], b: &[Cell]) -> Ordering
     ensures { result ≡ row_cmp order.now a.now b.now }
 {
     for by in order {
-        let found = directed(by.down, cell_cmp(cell_at(a, by.place), cell_at(b, by.place)));
+        let found = directed(
+            by.down,
+            cell_cmp(cell_at(a, by.place), cell_at(b, by.place)),
+        );
         if found.is_ne() {
             return found;
         }
@@ -51,11 +54,12 @@ pub(crate) fn sort_rows(
 ) -> Result<(), AllocError>
     ensures { OnOk result (rows.new.items ≡ sorted (comes_before order.now) rows.old.items) }
 {
-    rows.as_mut_slice().sort_by(alloc, |a: &Items<Cell>, b: &Items<Cell>| -> Ordering
-        ensures { result ≡ row_cmp order.now a.now b.now }
-    {
-        row_cmp(order, a.as_slice(), b.as_slice())
-    })
+    rows.as_mut_slice().sort_by(
+        alloc,
+        |a: &Items<Cell>, b: &Items<Cell>| -> Ordering
+            ensures { result ≡ row_cmp order.now a.now b.now }
+        { row_cmp(order, a.as_slice(), b.as_slice()) },
+    )
 }
 
 /// Keeps the first rows.

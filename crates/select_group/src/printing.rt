@@ -1,57 +1,52 @@
 //! The text of rows.
 
-ghost use Rattle.std.specs.Prelude.{◌≡◌, ◌≤◌, ◌++◌, ℕ, List, map, length, IfOk, OnOk};
-ghost use Rattle.std.specs.List.{AllByRecursion};
-ghost use Rattle.fb_types.specs.declared.cells.Cell.{Cell};
+ghost use Rattle.std.specs.Prelude.{◌≡◌, ◌++◌, ◌∷◌, [], map, IfOk, OnOk};
+ghost use Rattle.csv.specs.Records.{fields_of, partial_of};
 ghost use Rattle.select_group.specs.Printed.{cell_text, rows_text};
 
-use csv::{Writer, WriterBuilder};
+use csv::{ByteRecord, WriterBuilder};
 use fb_types::Cell;
 use itoa::Buffer;
 use sqlite_items::Items;
 use std::alloc::{AllocError, Global};
 
-/// Writes a cell as a field.
-fn write_cell(
-    writer: &mut Writer<Vec<u8>>,
-    buffer: &mut Buffer,
-    cell: &Cell,
-) -> Result<(), AllocError> {
-    let written = match cell {
-        Cell::Null => writer.write_field(b""),
-        Cell::Whole(n) => writer.write_field(buffer.format(*n).as_bytes()),
-        Cell::Word(w) => writer.write_field(w.bytes()),
-    };
-    match written {
-        Ok(()) => Ok(()),
-        Err(_) => Err(AllocError),
+/// Adds a cell as a field.
+fn push_cell(record: &mut ByteRecord, buffer: &mut Buffer, cell: &Cell) -> Result<(), AllocError>
+    requires { partial_of record.old ≡ [] }
+    ensures fields { OnOk result (fields_of record.new ≡ fields_of record.old ++ cell_text cell.now ∷ []) }
+    ensures partial { OnOk result (partial_of record.new ≡ []) }
+{
+    match cell {
+        Cell::Null => record.push_field(b""),
+        Cell::Whole(n) => record.push_field(buffer.format(*n).as_bytes()),
+        Cell::Word(w) => record.push_field(w.bytes()),
     }
 }
 
-/// Writes a row as a record.
-fn write_row(
-    writer: &mut Writer<Vec<u8>>,
-    buffer: &mut Buffer,
-    row: &[Cell],
-) -> Result<(), AllocError> {
+/// Makes the record that of a row.
+fn fill(record: &mut ByteRecord, buffer: &mut Buffer, row: &[Cell]) -> Result<(), AllocError>
+    ensures { OnOk result (fields_of record.new ≡ map cell_text row.now) }
+{
+    record.clear();
     for cell in row {
-        write_cell(writer, buffer, cell)?;
+        push_cell(record, buffer, cell)?;
     }
-    match writer.end_record() {
-        Ok(()) => Ok(()),
-        Err(_) => Err(AllocError),
-    }
+    Ok(())
 }
 
 /// The text of rows as records of CSV: null as an empty field, numbers in decimal, words as their bytes. The rows are
-/// of one length, at least 1.
+/// of one length, at least 1: with rows of several lengths the writer gives up, which is answered as want of memory.
 pub fn print_rows(alloc: Global, rows: &[Items<Cell>]) -> Result<Vec<u8>, AllocError>
     ensures { IfOk result (λ text. text.items ≡ rows_text rows.now) }
 {
     let mut writer = WriterBuilder::new().from_writer(Vec::new(alloc));
+    let mut record = ByteRecord::new(alloc);
     let mut buffer = Buffer::new();
     for row in rows {
-        write_row(&mut writer, &mut buffer, row.as_slice())?;
+        fill(&mut record, &mut buffer, row.as_slice())?;
+        if writer.write_byte_record(&record).is_err() {
+            return Err(AllocError);
+        }
     }
     match writer.into_inner() {
         Ok(text) => Ok(text),

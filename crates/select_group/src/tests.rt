@@ -47,9 +47,21 @@ fn groups_rows_and_orders(rt: HostRuntime) -> Result<(), Fail> {
     let none: &[&str] = &[];
     for (query, records, want) in [
         ("select b, count(*), sum(a)", by_word, ",1,5\nx,2,3\ny,1,\n"),
-        ("select b, count(*), sum(a) order by count(*) desc", by_word, "x,2,3\n,1,5\ny,1,\n"),
-        ("select b, count(*), sum(a) order by sum(a)", by_word, "y,1,\nx,2,3\n,1,5\n"),
-        ("select b, count(*), sum(a) order by sum(a) desc limit 1", by_word, ",1,5\n"),
+        (
+            "select b, count(*), sum(a) order by count(*) desc",
+            by_word,
+            "x,2,3\n,1,5\ny,1,\n",
+        ),
+        (
+            "select b, count(*), sum(a) order by sum(a)",
+            by_word,
+            "y,1,\nx,2,3\n,1,5\n",
+        ),
+        (
+            "select b, count(*), sum(a) order by sum(a) desc limit 1",
+            by_word,
+            ",1,5\n",
+        ),
         ("select b, count(*), sum(a) limit 0", by_word, ""),
         ("select a", numbers, "3\n\"\"\n10\n2\n\"\"\n"),
         ("select a order by a", numbers, "\"\"\n\"\"\n2\n3\n10\n"),
@@ -59,13 +71,29 @@ fn groups_rows_and_orders(rt: HostRuntime) -> Result<(), Fail> {
         ("select sum(a)", numbers, "15\n"),
         ("select a, b", pairs, "2,x\n1,y\n2,z\n,w\n1,v\n"),
         ("select a, b order by a", pairs, ",w\n1,y\n1,v\n2,x\n2,z\n"),
-        ("select a, b order by a desc", pairs, "2,x\n2,z\n1,y\n1,v\n,w\n"),
-        ("select a, b order by a desc, b desc", pairs, "2,z\n2,x\n1,y\n1,v\n,w\n"),
+        (
+            "select a, b order by a desc",
+            pairs,
+            "2,x\n2,z\n1,y\n1,v\n,w\n",
+        ),
+        (
+            "select a, b order by a desc, b desc",
+            pairs,
+            "2,z\n2,x\n1,y\n1,v\n,w\n",
+        ),
         ("select a, b limit 2", pairs, "2,x\n1,y\n"),
         ("select a, b", none, ""),
         ("select count(*)", none, ""),
-        ("select a, min(c)", &["1 7", "2 -", "1 -3", "2 -"], "1,-3\n2,\n"),
-        ("select max(a), b, min(a), a", &["1 x 1 1", "5 x 5 5", "1 y 1 1"], "1,x,1,1\n5,x,5,5\n1,y,1,1\n"),
+        (
+            "select a, min(c)",
+            &["1 7", "2 -", "1 -3", "2 -"],
+            "1,-3\n2,\n",
+        ),
+        (
+            "select max(a), b, min(a), a",
+            &["1 x 1 1", "5 x 5 5", "1 y 1 1"],
+            "1,x,1,1\n5,x,5,5\n1,y,1,1\n",
+        ),
     ] {
         let found = answer(rt.alloc(), query, records)?;
         assert!(rt; found.as_slice() == want.as_bytes(), "{query}");

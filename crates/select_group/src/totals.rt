@@ -1,11 +1,12 @@
 //! The totals of a group, one for each item.
 
-ghost use Rattle.std.specs.Prelude.{◌≡◌, length, IfOk, IfSome};
+ghost use Rattle.std.specs.Prelude.{◌≡◌, ◌^◌, ◌+ℤ◌, length, IfOk, IfSome};
+ghost use Rattle.std.specs.Int.{int_max, int_min};
 ghost use Rattle.std.specs.List.{AllByRecursion};
 ghost use Rattle.query_grammar.specs.Picks.{is_total};
 ghost use Rattle.select_group.specs.Answer.{key_of};
 ghost use Rattle.select_group.specs.Gathered.{IsSmall};
-ghost use Rattle.select_group.specs.Totals.{IsTotalWithin, IsWithin, filled, joined, joined_all, numbers_of, started};
+ghost use Rattle.select_group.specs.Totals.{IsTotalWithin, IsWithin, both, counted, filled, joined, joined_all, numbers_of, started};
 
 use crate::cells::{number_cell, number_in};
 use crate::keys::GroupKey;
@@ -30,37 +31,62 @@ fn is_total(item: PickItem) -> bool
     }
 }
 
+/// One record more. Fewer than 2^32 have been counted.
+fn counted(total: Option<i128>) -> Option<i128>
+    requires { IfSome total (IsWithin (2 ^ 32)) }
+    ensures { result ≡ counted total }
+{
+    match total {
+        None => Some(1),
+        Some(n) => Some(n + 1),
+    }
+}
+
+fn least(total: Option<i128>, number: Option<i128>) -> Option<i128>
+    ensures { result ≡ both int_min total number }
+{
+    match (total, number) {
+        (None, number) => number,
+        (Some(n), None) => Some(n),
+        (Some(n), Some(m)) => Some(n.min(m)),
+    }
+}
+
+fn greatest(total: Option<i128>, number: Option<i128>) -> Option<i128>
+    ensures { result ≡ both int_max total number }
+{
+    match (total, number) {
+        (None, number) => number,
+        (Some(n), None) => Some(n),
+        (Some(n), Some(m)) => Some(n.max(m)),
+    }
+}
+
+/// The sum of a total of fewer than 2^32 records and a number.
+fn summed(total: Option<i128>, number: Option<i128>) -> Option<i128>
+    requires total { IfSome total (IsWithin (2 ^ 32)) }
+    requires number { IfSome number IsSmall }
+    ensures { result ≡ both (λ a b. a +ℤ b) total number }
+{
+    match (total, number) {
+        (None, number) => number,
+        (Some(n), None) => Some(n),
+        (Some(n), Some(m)) => Some(n + m),
+    }
+}
+
 /// A total with the number of one more record; None before the first. Fewer than 2^32 records are in it.
 fn joined(item: PickItem, total: Option<i128>, number: Option<i128>) -> Option<i128>
     requires total { IfSome total (IsWithin (2 ^ 32)) }
     requires number { IfSome number IsSmall }
     ensures { result ≡ joined item total number }
 {
-    if let PickItem::CountAll = item {
-        return match total {
-            Some(n) => Some(n + 1),
-            None => Some(1),
-        };
-    }
-    if let PickItem::Plain(_) = item {
-        return None;
-    }
-    match (total, number) {
-        (None, number) => number,
-        (total, None) => total,
-        (Some(n), Some(m)) => Some(both(item, n, m)),
-    }
-}
-
-fn both(item: PickItem, n: i128, m: i128) -> i128
-    requires total { IsWithin (2 ^ 32) n }
-    requires number { IsSmall m }
-    ensures { result ≡ both_by item n m }
-{
     match item {
-        PickItem::Least(_) => n.min(m),
-        PickItem::Greatest(_) => n.max(m),
-        _ => n + m,
+        PickItem::Plain(_) => None,
+        PickItem::CountAll => counted(total),
+        PickItem::Least(_) => least(total, number),
+        PickItem::Greatest(_) => greatest(total, number),
+        PickItem::Sum(_) => summed(total, number),
     }
 }
 

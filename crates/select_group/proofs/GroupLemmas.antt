@@ -4,7 +4,6 @@ use Rattle.std.specs.Prelude.{slice_get, IfSome}
 use Rattle.std.specs.List.{AllByRecursion, IsDistinct, list_any}
 use Rattle.std.specs.List.Sorted.{IsSorted, IsStrictlySortedBy}
 use Rattle.std.specs.Map.{keys_of, lookup}
-use Rattle.std.specs.HashMap.{get}
 use Rattle.std.proofs.lemmas.Map.Entries.{lookup_from_place}
 use Rattle.std.proofs.lemmas.Map.Made.{is_some-lookup}
 use Rattle.fb_types.specs.declared.cells.Cell.{Cell}
@@ -12,7 +11,7 @@ use Rattle.query_grammar.specs.declared.picking.PickItem.{PickItem}
 use Rattle.query_grammar.specs.declared.picking.Pick.{Pick}
 use Rattle.query_grammar.specs.Picks.{is_total}
 use Rattle.select_group.specs.Answer.{group_row, groups_of, has_key, key_of, total}
-use Rattle.select_group.specs.Gathered.{CanBeAdded, Gathered, Groups, Held, totals, totals_if}
+use Rattle.select_group.specs.Gathered.{CanBeAdded, Gathered, Groups, Held, totals, totals_at, totals_if}
 use Rattle.select_group.specs.Keys.{cells_cmp-same, cells_cmp-total, cells_eq-equivalence, cells_eq-same}
 use Rattle.select_group.specs.Order.{rising_keys}
 use Rattle.select_group.specs.Rows.{cells_cmp, cells_eq, first_cell, number_cell, other_cells}
@@ -38,11 +37,11 @@ keys_members q (key ∷ keys) = insert_members cells_cmp-total cells_cmp-same q 
 
 totals_there : (items : List PickItem) (q : List Cell) (rows : List (List Cell)) → is_some (totals_if items (filter (has_key items q) rows)) ≡ list_any (cells_eq q) (map (key_of items) rows)
 totals_there items q [] = refl
-totals_there items q (row ∷ rows) = by (has_key items q row) refl
+totals_there items q (row ∷ rows) = by (totals_there items q rows) (has_key items q row) refl
   where
-    by : (b : Bool) → has_key items q row ≡ b → is_some (totals_if items (cond b (row ∷ filter (has_key items q) rows) (filter (has_key items q) rows))) ≡ (cells_eq q (key_of items row) || list_any (cells_eq q) (map (key_of items) rows))
-    by true e = let t : cells_eq q (key_of items row) ≡ true = cells_eq-equivalence.symm q (key_of items row) ∙ e in rw t refl
-    by false e = let f : cells_eq q (key_of items row) ≡ false = cells_eq-equivalence.symm q (key_of items row) ∙ e in rw f (totals_there items q rows)
+    by : is_some (totals_if items (filter (has_key items q) rows)) ≡ list_any (cells_eq q) (map (key_of items) rows) → (b : Bool) → has_key items q row ≡ b → is_some (totals_if items (cond b (row ∷ filter (has_key items q) rows) (filter (has_key items q) rows))) ≡ (cells_eq q (key_of items row) || list_any (cells_eq q) (map (key_of items) rows))
+    by rest true e = let t : cells_eq q (key_of items row) ≡ true = cells_eq-equivalence.symm q (key_of items row) ∙ e in rw t refl
+    by rest false e = let f : cells_eq q (key_of items row) ≡ false = cells_eq-equivalence.symm q (key_of items row) ∙ e in rw f rest
 
 -- ---- the rows of groups
 
@@ -92,18 +91,18 @@ groups_told items rows es sorted distinct found =
 -- ---- one record more
 
 abbrev pub Grows : List PickItem → List Cell → Groups → Groups → Type 0
-Grows items cells old new = (key : List Cell) → get cells_eq new key ≡ cond (cells_eq (key_of items cells) key) (Some (grown items (get cells_eq old key) (numbers_of items cells))) (get cells_eq old key)
+Grows items cells old new = (key : List Cell) → totals_at new key ≡ cond (cells_eq (key_of items cells) key) (Some (grown items (totals_at old key) (numbers_of items cells))) (totals_at old key)
 
 pub grows_fits : (n : ℕ) (items : List PickItem) (cells : List Cell) (old new : Groups) → CanBeAdded items cells → AllFit items n old → Grows items cells old new → AllFit items (n + 1) new
 grows_fits n items cells old new can fits grows = λ key. subst (λ o. IfSome o (FitsItems items (n + 1) key)) (sym (grows key)) (by key (cells_eq (key_of items cells) key) refl)
   where
-    by : (key : List Cell) (b : Bool) → cells_eq (key_of items cells) key ≡ b → IfSome (cond b (Some (grown items (get cells_eq old key) (numbers_of items cells))) (get cells_eq old key)) (FitsItems items (n + 1) key)
+    by : (key : List Cell) (b : Bool) → cells_eq (key_of items cells) key ≡ b → IfSome (cond b (Some (grown items (totals_at old key) (numbers_of items cells))) (totals_at old key)) (FitsItems items (n + 1) key)
     by key true e =
         let long : length key ≡ length items = ap length (sym (cells_eq-same (key_of items cells) key e)) ∙ length-key_of items cells can.one_each in
-        grown_fits n items cells key (get cells_eq old key) can long (fits key)
-    by key false e = fits_more n (n + 1) items key (get cells_eq old key) (omega arith) (fits key)
+        grown_fits n items cells key (totals_at old key) can long (fits key)
+    by key false e = fits_more n (n + 1) items key (totals_at old key) (omega arith) (fits key)
 
-pub grows_gathered : (items : List PickItem) (cells : List Cell) (rows : List (List Cell)) (old new : Groups) → length cells ≡ length items → ((key : List Cell) → get cells_eq old key ≡ totals_if items (filter (has_key items key) rows)) → Grows items cells old new
-    → (key : List Cell) → get cells_eq new key ≡ totals_if items (filter (has_key items key) (rows ++ cells ∷ []))
+pub grows_gathered : (items : List PickItem) (cells : List Cell) (rows : List (List Cell)) (old new : Groups) → length cells ≡ length items → ((key : List Cell) → totals_at old key ≡ totals_if items (filter (has_key items key) rows)) → Grows items cells old new
+    → (key : List Cell) → totals_at new key ≡ totals_if items (filter (has_key items key) (rows ++ cells ∷ []))
 grows_gathered items cells rows old new long gathered grows key =
     grows key ∙ (ap (λ o. cond (cells_eq (key_of items cells) key) (Some (grown items o (numbers_of items cells))) o) (gathered key) ∙ sym (group_push items rows cells key long))

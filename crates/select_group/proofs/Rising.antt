@@ -3,7 +3,7 @@ use Rattle.std.proofs.Common.{◌≡◌, ℕ, ◌+◌, ◌<◌, Bool, true, fals
 use Rattle.std.specs.Cmp.{IsTotalOrder}
 use Rattle.std.specs.List.{AllByRecursion, IsDistinct, list_any}
 use Rattle.std.specs.List.Sorted.{IsSorted, IsStrictlySortedBy}
-use Rattle.std.specs.Ordering.{eq_by_cmp, is_eq, is_lt, ordering_reverse}
+use Rattle.std.specs.Ordering.{eq_by_cmp, is_eq, is_lt, match_ordering, ordering_reverse}
 use Rattle.std.specs.BTreeSet.{insert_key}
 use Rattle.std.specs.declared.cmp.Ordering.{Ordering}
 use Rattle.std.specs.declared.cmp.Ordering.TheVariants.{Less, Equal, Greater}
@@ -68,23 +68,22 @@ module _ {K : Type 0} {R : K → K → Ordering} (o : IsTotalOrder R) (same : (x
 
   all_put : (x k : K) (ks : List K) → AllByRecursion (λ z. R x z ≡ Less) ks → R x k ≡ Less → AllByRecursion (λ z. R x z ≡ Less) (insert_key R ks k)
   all_put x k [] all less = (less, tt)
-  all_put x k (y ∷ ks) all less = by (R k y)
+  all_put x k (y ∷ ks) all less = by (all_put x k ks all.1 less) (R k y)
     where
-      by : (r : Ordering) → AllByRecursion (λ z. R x z ≡ Less) (match_ordering r (k ∷ y ∷ ks) (y ∷ ks) (y ∷ insert_key R ks k))
-      by Less = (less, all)
-      by Equal = all
-      by Greater = (all.0, all_put x k ks all.1 less)
+      by : AllByRecursion (λ z. R x z ≡ Less) (insert_key R ks k) → (r : Ordering) → AllByRecursion (λ z. R x z ≡ Less) (match_ordering r (k ∷ y ∷ ks) (y ∷ ks) (y ∷ insert_key R ks k))
+      by rest Less = (less, all)
+      by rest Equal = all
+      by rest Greater = (all.0, rest)
 
   pub insert_rises : (k : K) (ks : List K) → IsStrictlySortedBy R ks → IsStrictlySortedBy R (insert_key R ks k)
   unfolding IsStrictlySortedBy
   insert_rises k [] s = (tt, tt)
-  insert_rises k (y ∷ ks) s = by (R k y) refl
+  insert_rises k (y ∷ ks) s = by (insert_rises k ks s.1) (R k y) refl
     where
-      by : (r : Ordering) → R k y ≡ r → IsStrictlySortedBy R (match_ordering r (k ∷ y ∷ ks) (y ∷ ks) (y ∷ insert_key R ks k))
-      unfolding IsStrictlySortedBy
-      by Less e = ((e, below k y ks e s.0), s)
-      by Equal e = s
-      by Greater e = (all_put y k ks s.0 (turned k y e), insert_rises k ks s.1)
+      by : IsStrictlySortedBy R (insert_key R ks k) → (r : Ordering) → R k y ≡ r → IsStrictlySortedBy R (match_ordering r (k ∷ y ∷ ks) (y ∷ ks) (y ∷ insert_key R ks k))
+      by rest Less e = ((e, below k y ks e s.0), s)
+      by rest Equal e = s
+      by rest Greater e = (all_put y k ks s.0 (turned k y e), rest)
 
   or_swap : (a b c : Bool) → (a || (b || c)) ≡ (b || (a || c))
   or_swap true true c = refl
@@ -98,14 +97,14 @@ module _ {K : Type 0} {R : K → K → Ordering} (o : IsTotalOrder R) (same : (x
 
   pub insert_members : (q k : K) (ks : List K) → list_any (eq q) (insert_key R ks k) ≡ (eq q k || list_any (eq q) ks)
   insert_members q k [] = refl
-  insert_members q k (y ∷ ks) = by (R k y) refl
+  insert_members q k (y ∷ ks) = by (insert_members q k ks) (R k y) refl
     where
-      by : (r : Ordering) → R k y ≡ r → list_any (eq q) (match_ordering r (k ∷ y ∷ ks) (y ∷ ks) (y ∷ insert_key R ks k)) ≡ (eq q k || (eq q y || list_any (eq q) ks))
-      by Less e = refl
-      by Equal e =
+      by : list_any (eq q) (insert_key R ks k) ≡ (eq q k || list_any (eq q) ks) → (r : Ordering) → R k y ≡ r → list_any (eq q) (match_ordering r (k ∷ y ∷ ks) (y ∷ ks) (y ∷ insert_key R ks k)) ≡ (eq q k || (eq q y || list_any (eq q) ks))
+      by rest Less e = refl
+      by rest Equal e =
           let me : k ≡ y = same k y e in
           or_twice (eq q y) (list_any (eq q) ks) ∙ ap (λ j. eq q j || (eq q y || list_any (eq q) ks)) (sym me)
-      by Greater e = ap (λ b. eq q y || b) (insert_members q k ks) ∙ or_swap (eq q y) (eq q k) (list_any (eq q) ks)
+      by rest Greater e = ap (λ b. eq q y || b) rest ∙ or_swap (eq q y) (eq q k) (list_any (eq q) ks)
 
   -- ---- keys in order that are all distinct rise
 

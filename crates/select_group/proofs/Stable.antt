@@ -25,11 +25,11 @@ module _ {X : Type 0} (lt : X → X → Bool) (order : IsStrictWeakOrder lt) whe
 
   all_put : (P : X → Type 0) (x : X) (ys : List X) → AllByRecursion P ys → P x → AllByRecursion P (put_in lt x ys)
   all_put P x [] all one = (one, tt)
-  all_put P x (y ∷ ys) all one = by (lt y x)
+  all_put P x (y ∷ ys) all one = by (all_put P x ys all.1 one) (lt y x)
     where
-      by : (b : Bool) → AllByRecursion P (cond b (y ∷ put_in lt x ys) (x ∷ y ∷ ys))
-      by true = (all.0, all_put P x ys all.1 one)
-      by false = (one, all)
+      by : AllByRecursion P (put_in lt x ys) → (b : Bool) → AllByRecursion P (cond b (y ∷ put_in lt x ys) (x ∷ y ∷ ys))
+      by rest true = (all.0, rest)
+      by rest false = (one, all)
 
   none_behind : (x y : X) (ys : List X) → lt y x ≡ false → AllByRecursion (λ z. lt z y ≡ false) ys → AllByRecursion (λ z. lt z x ≡ false) ys
   none_behind x y [] e all = tt
@@ -37,11 +37,11 @@ module _ {X : Type 0} (lt : X → X → Bool) (order : IsStrictWeakOrder lt) whe
 
   put_keeps : (x : X) (ys : List X) → InOrder ys → InOrder (put_in lt x ys)
   put_keeps x [] is = (tt, tt)
-  put_keeps x (y ∷ ys) is = by (lt y x) refl
+  put_keeps x (y ∷ ys) is = by (put_keeps x ys is.1) (lt y x) refl
     where
-      by : (b : Bool) → lt y x ≡ b → InOrder (cond b (y ∷ put_in lt x ys) (x ∷ y ∷ ys))
-      by true e = (all_put (λ z. lt z y ≡ false) x ys is.0 (order.one_way y x e), put_keeps x ys is.1)
-      by false e = ((e, none_behind x y ys e is.0), is)
+      by : InOrder (put_in lt x ys) → (b : Bool) → lt y x ≡ b → InOrder (cond b (y ∷ put_in lt x ys) (x ∷ y ∷ ys))
+      by rest true e = (all_put (λ z. lt z y ≡ false) x ys is.0 (order.one_way y x e), rest)
+      by rest false e = ((e, none_behind x y ys e is.0), is)
 
   and_first : (a b : Bool) → (not a && not b) ≡ true → a ≡ false
   and_first true b e = cc
@@ -67,11 +67,11 @@ module _ {X : Type 0} (lt : X → X → Bool) (order : IsStrictWeakOrder lt) whe
 
   put_filter : (a x : X) (ys : List X) → filter (ties lt a) (put_in lt x ys) ≡ filter (ties lt a) (x ∷ ys)
   put_filter a x [] = refl
-  put_filter a x (y ∷ ys) = by (lt y x) refl
+  put_filter a x (y ∷ ys) = by (put_filter a x ys) (lt y x) refl
     where
-      by : (b : Bool) → lt y x ≡ b → filter (ties lt a) (cond b (y ∷ put_in lt x ys) (x ∷ y ∷ ys)) ≡ filter (ties lt a) (x ∷ y ∷ ys)
-      by true e = ap (λ zs. cond (ties lt a y) (y ∷ zs) zs) (put_filter a x ys) ∙ swap a x y ys e (ties lt a x) (ties lt a y) refl refl
-      by false e = refl
+      by : filter (ties lt a) (put_in lt x ys) ≡ filter (ties lt a) (x ∷ ys) → (b : Bool) → lt y x ≡ b → filter (ties lt a) (cond b (y ∷ put_in lt x ys) (x ∷ y ∷ ys)) ≡ filter (ties lt a) (x ∷ y ∷ ys)
+      by rest true e = ap (λ zs. cond (ties lt a y) (y ∷ zs) zs) rest ∙ swap a x y ys e (ties lt a x) (ties lt a y) refl refl
+      by rest false e = refl
 
   sorted_keeps : (xs : List X) → InOrder (sorted lt xs)
   sorted_keeps [] = tt
@@ -98,11 +98,11 @@ module _ {X : Type 0} (lt : X → X → Bool) (order : IsStrictWeakOrder lt) whe
 
   head_of : (P : X → Type 0) (p : X → Bool) (ys : List X) (z : X) (zs : List X) → AllByRecursion P ys → filter p ys ≡ z ∷ zs → P z
   head_of P p [] z zs all e = absurd cc
-  head_of P p (y ∷ ys) z zs all e = by (p y) e
+  head_of P p (y ∷ ys) z zs all e = by (head_of P p ys z zs all.1) (p y) e
     where
-      by : (b : Bool) → cond b (y ∷ filter p ys) (filter p ys) ≡ z ∷ zs → P z
-      by true f = let same : y ≡ z = cc in subst P same all.0
-      by false f = head_of P p ys z zs all.1 f
+      by : (filter p ys ≡ z ∷ zs → P z) → (b : Bool) → cond b (y ∷ filter p ys) (filter p ys) ≡ z ∷ zs → P z
+      by rest true f = let same : y ≡ z = cc in subst P same all.0
+      by rest false f = rest f
 
   kept : (p : X → Bool) (y : X) (ys : List X) → p y ≡ true → filter p (y ∷ ys) ≡ y ∷ filter p ys
   kept p y ys e = rw e refl

@@ -101,12 +101,11 @@ both_none : (f : ℤ → ℤ → ℤ) (t : Option ℤ) → both f t None ≡ t
 both_none f None = refl
 both_none f (Some n) = refl
 
-pushed : Option ℤ → List ℤ
+abbrev pushed : Option ℤ → List ℤ
 pushed None = []
 pushed (Some n) = n ∷ []
 
 numbers_push : (cells : List Cell) (c : Cell) → filter_map number_in (cells ++ c ∷ []) ≡ filter_map number_in cells ++ pushed (number_in c)
-unfolding pushed
 numbers_push [] Null = refl
 numbers_push [] (Whole n) = refl
 numbers_push [] (Word w) = refl
@@ -118,7 +117,6 @@ folds_push : (f : ℤ → ℤ → ℤ) (cells : List Cell) (c : Cell) → togeth
 folds_push f cells c = ap (together f) (numbers_push cells c) ∙ by (number_in c)
   where
     by : (n : Option ℤ) → together f (filter_map number_in cells ++ pushed n) ≡ both f (together f (filter_map number_in cells)) n
-    unfolding pushed
     by None = ap (together f) (append-nil (filter_map number_in cells)) ∙ sym (both_none f (together f (filter_map number_in cells)))
     by (Some n) = together_push f (filter_map number_in cells) n
 

@@ -1,10 +1,8 @@
 -- What a grouper keeps of records, and when it is that of these records.
-use Rattle.std.specs.Prelude.{◌≡◌, ℕ, ◌+◌, ◌*◌, ◌^◌, ◌≤◌, Bool, true, false, if◌then◌else◌, List, [], ◌∷◌, length, map, filter, Option, Some, None, IfSome, ℤ, pos, ◌+ℤ◌, neg_ℤ, ◌≤ℤ◌}
+use Rattle.std.specs.Prelude.{◌≡◌, ℕ, ◌+◌, ◌-◌, ◌*◌, ◌^◌, ◌≤◌, Bool, true, false, if◌then◌else◌, List, [], ◌∷◌, length, map, filter, Option, Some, None, IfSome, ℤ, pos, ◌+ℤ◌, neg_ℤ, ◌≤ℤ◌}
 use Rattle.std.specs.Int.{int_min, int_max}
 use Rattle.std.specs.List.{AllByRecursion}
-use Rattle.std.specs.HashMap.{get, HashMap}
-use Rattle.std.specs.declared.hash.FoldHasher.{FoldHasher}
-use Rattle.std.specs.declared.hash.BuildHasherDefault.{BuildHasherDefault}
+use Rattle.std.specs.Map.{lookup}
 use Rattle.fb_types.specs.declared.cells.Cell.{Cell}
 use Rattle.fb_types.specs.declared.cells.Cell.TheVariants.{Null, Whole, Word}
 use Rattle.query_grammar.specs.declared.picking.PickItem.{PickItem}
@@ -14,8 +12,13 @@ use Rattle.query_grammar.specs.Picks.{is_total}
 use Rattle.select_group.specs.Answer.{has_key, total}
 use Rattle.select_group.specs.Rows.{cells_eq, first_cell, number_in, other_cells}
 
+-- keys, each with the totals of its group
 abbrev pub Groups : Type 0
-Groups = HashMap (List Cell) (List (Option ℤ)) (BuildHasherDefault FoldHasher)
+Groups = List (List Cell × List (Option ℤ))
+
+-- the totals of the group with this key
+abbrev pub totals_at : Groups → List Cell → Option (List (Option ℤ))
+totals_at groups key = lookup (cells_eq key) groups
 
 -- the selection, how many records were added, the rows where there are no groups, and the totals of each group
 pub record Held : Type 0 where
@@ -54,4 +57,4 @@ totals_if items (row ∷ group) = Some (totals items (row ∷ group))
 pub record Gathered (held : Held) (rows : List (List Cell)) : Type 0 where
   pub added : held.added ≡ length rows
   pub kept : held.pick.grouped ≡ false → held.rows ≡ rows
-  pub groups : held.pick.grouped ≡ true → (key : List Cell) → get cells_eq held.groups key ≡ totals_if held.pick.items (filter (has_key held.pick.items key) rows)
+  pub groups : held.pick.grouped ≡ true → (key : List Cell) → totals_at held.groups key ≡ totals_if held.pick.items (filter (has_key held.pick.items key) rows)

@@ -96,21 +96,21 @@ both_equal Less p e = cc
 both_equal Equal p e = (refl, e)
 both_equal Greater p e = cc
 
-pub cells_cmp-same : (as bs : List Cell) → cells_cmp as bs ≡ Equal → as ≡ bs
+pub cells_cmp-same : (xs ys : List Cell) → cells_cmp xs ys ≡ Equal → xs ≡ ys
 cells_cmp-same [] [] e = refl
-cells_cmp-same [] (b ∷ bs) e = cc
-cells_cmp-same (a ∷ as) [] e = cc
-cells_cmp-same (a ∷ as) (b ∷ bs) e =
-    let two = both_equal (cell_cmp a b) (cells_cmp as bs) e in
+cells_cmp-same [] (b ∷ ys) e = cc
+cells_cmp-same (a ∷ xs) [] e = cc
+cells_cmp-same (a ∷ xs) (b ∷ ys) e =
+    let two = both_equal (cell_cmp a b) (cells_cmp xs ys) e in
     let first = cell_cmp-same a b two.0 in
-    let rest = cells_cmp-same as bs two.1 in
+    let rest = cells_cmp-same xs ys two.1 in
     cc
 
-pub cells_eq-same : (as bs : List Cell) → cells_eq as bs ≡ true → as ≡ bs
-cells_eq-same as bs e = cells_cmp-same as bs ((Equal-is (cells_cmp as bs)).0 e)
+pub cells_eq-same : (xs ys : List Cell) → cells_eq xs ys ≡ true → xs ≡ ys
+cells_eq-same xs ys e = cells_cmp-same xs ys ((Equal-is (cells_cmp xs ys)).0 e)
 
-pub cells_input-same : (as bs : List Cell) → IsTrue (cells_eq as bs) → cells_input as ≡ cells_input bs
-cells_input-same as bs e = ap cells_input (cells_eq-same as bs (is_true (cells_eq as bs) e))
+pub cells_input-same : (xs ys : List Cell) → IsTrue (cells_eq xs ys) → cells_input xs ≡ cells_input ys
+cells_input-same xs ys e = ap cells_input (cells_eq-same xs ys (is_true (cells_eq xs ys) e))
   where
     is_true : (b : Bool) → IsTrue b → b ≡ true
     is_true true e = refl

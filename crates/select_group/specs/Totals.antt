@@ -2,13 +2,12 @@
 use Rattle.std.specs.Prelude.{◌≡◌, ℕ, ◌+◌, ◌*◌, ◌^◌, if◌then◌else◌, List, [], ◌∷◌, length, Option, Some, None, IfSome, option_map, ℤ, pos, neg_ℤ, ◌+ℤ◌, ◌≤ℤ◌}
 use Rattle.std.specs.Int.{int_min, int_max}
 use Rattle.std.specs.List.{AllByRecursion}
-use Rattle.std.specs.HashMap.{get}
 use Rattle.fb_types.specs.declared.cells.Cell.{Cell}
 use Rattle.query_grammar.specs.declared.picking.PickItem.{PickItem}
 use Rattle.query_grammar.specs.declared.picking.PickItem.TheVariants as pick
 use Rattle.query_grammar.specs.Picks.{is_total}
-use Rattle.select_group.specs.Gathered.{Groups}
-use Rattle.select_group.specs.Rows.{cells_eq, number_cell, number_in}
+use Rattle.select_group.specs.Gathered.{Groups, totals_at}
+use Rattle.select_group.specs.Rows.{number_cell, number_in}
 
 -- the numbers of a row in the places of the items that are over a group
 abbrev pub numbers_of : List PickItem → List Cell → List (Option ℤ)
@@ -75,4 +74,4 @@ pub record FitsItems (items : List PickItem) (n : ℕ) (key : List Cell) (ts : L
 
 -- each group's key and totals fit
 abbrev pub AllFit : List PickItem → ℕ → Groups → Type 0
-AllFit items n groups = (key : List Cell) → IfSome (get cells_eq groups key) (FitsItems items n key)
+AllFit items n groups = (key : List Cell) → IfSome (totals_at groups key) (FitsItems items n key)

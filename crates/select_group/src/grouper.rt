@@ -2,9 +2,8 @@
 
 ghost use Rattle.std.specs.Prelude.{◌≡◌, ◌+◌, ◌<◌, ◌≤◌, ◌^◌, ◌++◌, ◌∷◌, [], if◌then◌else◌, List, Some, filter, length, map, IfOk, OnOk, OnErr};
 ghost use Rattle.fb_types.specs.declared.cells.Cell.{Cell};
-ghost use Rattle.std.specs.HashMap.{get};
 ghost use Rattle.select_group.specs.Answer.{answer_of, groups_of, has_key, key_of};
-ghost use Rattle.select_group.specs.Gathered.{CanBeAdded, Gathered, totals_if};
+ghost use Rattle.select_group.specs.Gathered.{CanBeAdded, Gathered, totals_at, totals_if};
 ghost use Rattle.select_group.specs.Rows.{cells_eq};
 ghost use Rattle.select_group.specs.Totals.{AllFit, grown, numbers_of};
 
@@ -36,9 +35,9 @@ impl Model for Grouper {
 
     ghost Value = { Held };
 
-    ghost view = { λ g. record { pick = g.pick; added = g.added; rows = g.rows.items; groups = g.groups } };
+    ghost view = { λ g. record { pick = g.pick; added = g.added; rows = g.rows.items; groups = g.groups.entries } };
 
-    ghost invariant = { λ g. AllFit g.pick.items g.added g.groups × (g.added ≤ 2 ^ 32) };
+    ghost invariant = { λ g. AllFit g.pick.items g.added g.groups.entries × (g.added ≤ 2 ^ 32) };
 }
 
 /// Adds a record to its group. A refused call leaves the groups as they were.
@@ -49,9 +48,9 @@ fn add_to_group(
     cells: Vec<Cell>,
 ) -> Result<(), AllocError>
     requires can { CanBeAdded items.now cells.items }
-    requires fits { AllFit items.now (2 ^ 32) groups.old }
-    ensures grown { OnOk result ((key : List Cell) → get cells_eq groups.new key ≡ (if cells_eq (key_of items.now cells.items) key then Some (grown items.now (get cells_eq groups.old key) (numbers_of items.now cells.items)) else get cells_eq groups.old key)) }
-    ensures kept { OnErr result ((key : List Cell) → get cells_eq groups.new key ≡ get cells_eq groups.old key) }
+    requires fits { AllFit items.now (2 ^ 32) groups.old.entries }
+    ensures grown { OnOk result ((key : List Cell) → totals_at groups.new.entries key ≡ (if cells_eq (key_of items.now cells.items) key then Some (grown items.now (totals_at groups.old.entries key) (numbers_of items.now cells.items)) else totals_at groups.old.entries key)) }
+    ensures kept { OnErr result ((key : List Cell) → totals_at groups.new.entries key ≡ totals_at groups.old.entries key) }
 {
     let numbers = numbers_of(alloc, items, &cells)?;
     let key = key_of(items, cells);
@@ -69,9 +68,9 @@ fn group_rows(
     groups: IndexMap<GroupKey, Numbers>,
     items: &[PickItem],
 ) -> Result<Vec<Items<Cell>>, AllocError>
-    requires fits { AllFit items.now (2 ^ 32) groups }
+    requires fits { AllFit items.now (2 ^ 32) groups.entries }
     ensures { IfOk result (λ rows. (records : List (List Cell))
-        → ((key : List Cell) → get cells_eq groups key ≡ totals_if items.now (filter (has_key items.now key) records))
+        → ((key : List Cell) → totals_at groups.entries key ≡ totals_if items.now (filter (has_key items.now key) records))
         → rows.items ≡ groups_of items.now records) }
 {
     let mut groups = groups;

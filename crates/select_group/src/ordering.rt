@@ -3,6 +3,7 @@
 ghost use Rattle.std.specs.Prelude.{◌≡◌, slice_index_or, OnOk};
 ghost use Rattle.fb_types.specs.declared.cells.Cell.TheVariants.{Null};
 ghost use Rattle.select_group.specs.Answer.{first_rows};
+ghost use Rattle.select_group.specs.Rows.{cell_cmp};
 ghost use Rattle.select_group.specs.Order.{comes_before, directed, row_cmp, sorted};
 
 use crate::cells::cell_cmp;
@@ -12,16 +13,12 @@ use sqlite_items::{Items, at};
 use std::alloc::{AllocError, Global};
 use std::cmp::Ordering;
 
-static NO_CELL: Cell = Cell::Null;
-
-/// The cell at a place, null where there is none.
-fn cell_at(cells: &[Cell], place: usize) -> &Cell
-    ensures { result.now ≡ slice_index_or cells.now place Null }
+/// By the cells at a place; a row that has none there counts as null.
+fn place_cmp(a: &[Cell], b: &[Cell], place: usize) -> Ordering
+    ensures { result ≡ cell_cmp (slice_index_or a.now place Null) (slice_index_or b.now place Null) }
 {
-    match at(cells, place) {
-        Some(cell) => cell,
-        None => &NO_CELL,
-    }
+    let null = Cell::Null;
+    cell_cmp(at(a, place).unwrap_or(&null), at(b, place).unwrap_or(&null))
 }
 
 fn directed(down: bool, order: Ordering) -> Ordering
@@ -35,10 +32,7 @@ fn row_cmp(order: &[OrderPlace], a: &[Cell], b: &[Cell]) -> Ordering
     ensures { result ≡ row_cmp order.now a.now b.now }
 {
     for by in order {
-        let found = directed(
-            by.down,
-            cell_cmp(cell_at(a, by.place), cell_at(b, by.place)),
-        );
+        let found = directed(by.down, place_cmp(a, b, by.place));
         if found.is_ne() {
             return found;
         }
@@ -57,7 +51,7 @@ pub(crate) fn sort_rows(
     rows.as_mut_slice().sort_by(
         alloc,
         |a: &Items<Cell>, b: &Items<Cell>| -> Ordering
-            ensures { result ≡ row_cmp order.now a.now b.now }
+            ensures { result ≡ row_cmp order.entry.now a.now b.now }
         { row_cmp(order, a.as_slice(), b.as_slice()) },
     )
 }

@@ -11,25 +11,25 @@ use sqlite_items::Items;
 use std::alloc::{AllocError, Global};
 
 /// Adds a cell as a field.
-fn push_cell(record: &mut ByteRecord, buffer: &mut Buffer, cell: &Cell) -> Result<(), AllocError>
-    requires { partial_of record.old ≡ [] }
-    ensures fields { OnOk result (fields_of record.new ≡ fields_of record.old ++ cell_text cell.now ∷ []) }
-    ensures partial { OnOk result (partial_of record.new ≡ []) }
+fn push_cell(line: &mut ByteRecord, buffer: &mut Buffer, cell: &Cell) -> Result<(), AllocError>
+    requires { partial_of line.old ≡ [] }
+    ensures fields { OnOk result (fields_of line.new ≡ fields_of line.old ++ cell_text cell.now ∷ []) }
+    ensures partial { OnOk result (partial_of line.new ≡ []) }
 {
     match cell {
-        Cell::Null => record.push_field(b""),
-        Cell::Whole(n) => record.push_field(buffer.format(*n).as_bytes()),
-        Cell::Word(w) => record.push_field(w.bytes()),
+        Cell::Null => line.push_field(b""),
+        Cell::Whole(n) => line.push_field(buffer.format(*n).as_bytes()),
+        Cell::Word(w) => line.push_field(w.bytes()),
     }
 }
 
 /// Makes the record that of a row.
-fn fill(record: &mut ByteRecord, buffer: &mut Buffer, row: &[Cell]) -> Result<(), AllocError>
-    ensures { OnOk result (fields_of record.new ≡ map cell_text row.now) }
+fn fill(line: &mut ByteRecord, buffer: &mut Buffer, row: &[Cell]) -> Result<(), AllocError>
+    ensures { OnOk result (fields_of line.new ≡ map cell_text row.now) }
 {
-    record.clear();
+    line.clear();
     for cell in row {
-        push_cell(record, buffer, cell)?;
+        push_cell(line, buffer, cell)?;
     }
     Ok(())
 }
@@ -40,11 +40,11 @@ pub fn print_rows(alloc: Global, rows: &[Items<Cell>]) -> Result<Vec<u8>, AllocE
     ensures { IfOk result (λ text. text.items ≡ rows_text rows.now) }
 {
     let mut writer = WriterBuilder::new().from_writer(Vec::new(alloc));
-    let mut record = ByteRecord::new(alloc);
+    let mut line = ByteRecord::new(alloc);
     let mut buffer = Buffer::new();
     for row in rows {
-        fill(&mut record, &mut buffer, row.as_slice())?;
-        if writer.write_byte_record(&record).is_err() {
+        fill(&mut line, &mut buffer, row.as_slice())?;
+        if writer.write_byte_record(&line).is_err() {
             return Err(AllocError);
         }
     }

@@ -5,6 +5,6 @@ use Rattle.select_group.proofs.printing.fill.Given as goal
 
 abbrev pub invariant-loop-cell : goal.invariant-loop-cell
 invariant-loop-cell l = record {
-  fields : fields_of l.record ≡ map cell_text (take l.cell-index l.row);
-  partial : partial_of l.record ≡ [];
+  fields : fields_of l.line ≡ map cell_text (take l.cell-index l.row);
+  partial : partial_of l.line ≡ [];
 }

@@ -2,3 +2,4 @@ pub mod Rising
 pub mod Stable
 pub mod TotalLemmas
 pub mod GroupLemmas
+pub mod Orders

@@ -110,8 +110,4 @@ pub cells_eq-same : (xs ys : List Cell) → cells_eq xs ys ≡ true → xs ≡ y
 cells_eq-same xs ys e = cells_cmp-same xs ys ((Equal-is (cells_cmp xs ys)).0 e)
 
 pub cells_input-same : (xs ys : List Cell) → IsTrue (cells_eq xs ys) → cells_input xs ≡ cells_input ys
-cells_input-same xs ys e = ap cells_input (cells_eq-same xs ys (is_true (cells_eq xs ys) e))
-  where
-    is_true : (b : Bool) → IsTrue b → b ≡ true
-    is_true true e = refl
-    is_true false e = absurd e
+cells_input-same xs ys e = ap cells_input (cells_eq-same xs ys e)

@@ -9,16 +9,27 @@ ghost use Rattle.select_group.specs.Order.{comes_before, directed, row_cmp, sort
 use crate::cells::cell_cmp;
 use fb_types::Cell;
 use query_grammar::OrderPlace;
-use sqlite_items::{Items, at};
+use sqlite_items::Items;
 use std::alloc::{AllocError, Global};
 use std::cmp::Ordering;
+
+/// The cell at a place, or the one that stands for it where there is none.
+fn cell_at<'a>(cells: &'a [Cell], place: usize, none: &'a Cell) -> &'a Cell
+    ensures { result.now ≡ slice_index_or cells.now place none.now }
+{
+    if place < cells.len() {
+        &cells[place]
+    } else {
+        none
+    }
+}
 
 /// By the cells at a place; a row that has none there counts as null.
 fn place_cmp(a: &[Cell], b: &[Cell], place: usize) -> Ordering
     ensures { result ≡ cell_cmp (slice_index_or a.now place Null) (slice_index_or b.now place Null) }
 {
     let null = Cell::Null;
-    cell_cmp(at(a, place).unwrap_or(&null), at(b, place).unwrap_or(&null))
+    cell_cmp(cell_at(a, place, &null), cell_at(b, place, &null))
 }
 
 fn directed(down: bool, order: Ordering) -> Ordering

@@ -105,10 +105,10 @@ fn groups_rows_and_orders(rt: HostRuntime) -> Result<(), Fail> {
 fn sums_pass_64_bits(rt: HostRuntime) -> Result<(), Fail> {
     let most = "18446744073709551615";
     let found = answer(rt.alloc(), "select sum(c)", &[most, most, most])?;
-    assert!(rt; found.as_slice() == b"55340232221128654845\n");
+    assert!(rt; found.as_slice() == "55340232221128654845\n".as_bytes());
     let least = "-9223372036854775808";
     let found = answer(rt.alloc(), "select sum(c)", &[least, least])?;
-    assert!(rt; found.as_slice() == b"-18446744073709551616\n");
+    assert!(rt; found.as_slice() == "-18446744073709551616\n".as_bytes());
     Ok(())
 }
 

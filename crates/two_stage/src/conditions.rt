@@ -91,6 +91,10 @@ impl<'a> Conditions for PartConditions<'a> {
 
     ghost meaning = { λ c files m means. is_meaning files c.dir.now c.part.now m means };
 
+    ghost memory = { λ full fault given. memory_is_memory fault given };
+
+    ghost no_failure = { λ fault memory store. no_failure fault memory store };
+
     fn rows(&self) -> u32 {
         self.part.rows
     }

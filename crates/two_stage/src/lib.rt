@@ -12,6 +12,7 @@ mod fault;
 mod found;
 mod kept;
 mod laws;
+mod lists;
 mod numbers;
 mod open_index;
 mod placed;

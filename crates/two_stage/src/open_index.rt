@@ -16,6 +16,7 @@ ghost use Rattle.two_stage.specs.Indexed.{Fetches, HasBins, StopsIn, edges_say, 
 
 use crate::bin_runs::{BinRun, bin_runs};
 use crate::fault::{EvalFault, of_index};
+use crate::lists::keep;
 use binning::{Encoding, Spans, Three};
 use enc_two_level::AnyEncoding;
 use fb_outside::Store;
@@ -107,9 +108,9 @@ impl OpenIndex {
         for run in runs {
             let rows = self.rows_of(alloc, store, *run, steps)?;
             if run.answer == Three::Yes {
-                definite.push(rows)?;
+                keep(&mut definite, rows)?;
             } else {
-                unknown.push(rows)?;
+                keep(&mut unknown, rows)?;
             }
         }
         Ok(RunRows { definite, unknown })
@@ -167,7 +168,8 @@ impl OpenIndex {
     {
         let mut all = Vec::with_capacity(alloc, numbers.len())?;
         for k in numbers {
-            all.push(self.fetch_one(alloc, store, *k)?)?;
+            let bitmap = self.fetch_one(alloc, store, *k)?;
+            keep(&mut all, bitmap)?;
         }
         Ok(all)
     }

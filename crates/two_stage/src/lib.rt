@@ -28,4 +28,6 @@ pub use laws::{
 pub use stages::{Bounds, Hits};
 
 #[cfg(test)]
+mod sample_files;
+#[cfg(test)]
 mod tests;

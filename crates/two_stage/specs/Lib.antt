@@ -5,6 +5,7 @@ pub mod Bitmaps
 pub mod Files
 pub mod Parts
 pub mod Faults
+pub mod FaultLaws
 pub mod Opened
 pub mod Codes
 pub mod Indexed

@@ -7,10 +7,10 @@ use Rattle.fb_types.specs.declared.cells.Cell.{Cell}
 use Rattle.fb_types.specs.declared.schemas.Column.{Column}
 use Rattle.part_meta.specs.declared.part.PartMeta.{PartMeta}
 use Rattle.where_grammar.specs.Holds.{is_there}
-use Rattle.where_plan.specs.Plans.{place_in}
+use Rattle.where_plan.specs.Plans.{FitsColumn, place_in}
 use Rattle.where_plan.specs.PlanHolds.{cell_at, plan_atom_holds}
 use Rattle.where_plan.specs.declared.plan.PlanAtom.{PlanAtom}
-use Rattle.stages.specs.Meaning.{Meaning}
+use Rattle.stages.specs.Meaning.{IsMeaningOf, Meaning}
 use Rattle.world.specs.PartFiles.{part_data}
 use Rattle.world.specs.Stands.{PartRests}
 use Rattle.world.specs.World.{IsPartition, Partition}
@@ -60,9 +60,10 @@ pub record IsPartAt (files : Option Files) (dir : List ℕ) (meta : PartMeta) (p
   pub valid : IsPartition meta.schema part
   pub rests : RestsIn files dir meta.schema part
 
--- what the files mean: what the partition does that they rest for
+-- What the files mean: what the partition does that they rest for, of which Yes is true and No is not.
 pub record Means (files : Option Files) (dir : List ℕ) (meta : PartMeta) (m : Meaning) : Type 0 where
   pub part : Partition
   pub has : IsPartAt files dir meta part
   pub meant : m ≡ meaning_of dir meta.schema part
+  pub law : IsMeaningOf meta.rows (FitsColumn meta.schema) m
 

@@ -70,7 +70,7 @@ impl<'a> Conditions for PartConditions<'a> {
     ghost use Rattle.two_stage.specs.Codes.{IsKept};
     ghost use Rattle.two_stage.specs.Faults.{IsOfMemory, IsOfStore, Stops};
     ghost use Rattle.two_stage.specs.Parts.{Means};
-    ghost use crate.proofs.MeaningLemmas.{is_meaning};
+    ghost use Rattle.two_stage.specs.FaultLaws.{not_of_store, of_memory};
 
     type Column = Kept;
     type Fault = EvalFault;
@@ -88,12 +88,6 @@ impl<'a> Conditions for PartConditions<'a> {
     ghost is_store = { IsOfStore };
 
     ghost is_memory = { IsOfMemory };
-
-    ghost meaning = { λ c files m means. is_meaning files c.dir.now c.part.now m means };
-
-    ghost memory = { λ full fault given. memory_is_memory fault given };
-
-    ghost no_failure = { λ fault memory store. no_failure fault memory store };
 
     fn rows(&self) -> u32 {
         self.part.rows
@@ -150,6 +144,12 @@ impl<'a> Conditions for PartConditions<'a> {
             (PlanAtom::Exists { .. }, _) => Ok(candidates.copy(alloc, steps)?),
         }
     }
+
+    ghost meaning = { λ c files m means. means.law };
+
+    ghost memory = { λ full fault given. of_memory fault given };
+
+    ghost no_failure = { not_of_store };
 }
 
 /// On which candidates the numbers or codes of a column are in the spans.

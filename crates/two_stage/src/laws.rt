@@ -1,8 +1,7 @@
 //! Laws of what is known of conditions, each on a function that does nothing.
 
-ghost use Rattle.std.specs.Prelude.{◌≡◌, ℕ, ℤ, pos, ◌≤ℤ◌, List, [], ◌∷◌, None, Some, codes, length};
+ghost use Rattle.std.specs.Prelude.{◌≡◌, ◌≤◌, ◌≤ℤ◌, ℕ, ℤ, pos, List, [], ◌∷◌, None, Option, codes, false, length, map, true};
 ghost use Rattle.fb_types.specs.declared.schemas.Column.{Column};
-ghost use Rattle.fb_types.specs.declared.types.ColType.TheVariants.{Int};
 ghost use Rattle.index_spec.specs.declared.spec.Coarse.TheVariants as coarse;
 ghost use Rattle.index_spec.specs.declared.spec.EncodingSpec.TheVariants.{Equality, Interval, Range, TwoLevel};
 ghost use Rattle.binning.specs.Against.{against};
@@ -13,15 +12,18 @@ ghost use Rattle.binning.specs.declared.span_lists.Span.{Span};
 ghost use Rattle.stages.specs.Meaning.{IsMeaningOf};
 ghost use Rattle.where_grammar.specs.declared.clause.Atom.{Atom};
 ghost use Rattle.where_grammar.specs.declared.clause.Atom.TheVariants as condition;
-ghost use Rattle.where_plan.specs.Plans.{FitsColumn};
+ghost use Rattle.where_grammar.specs.declared.clause.Clause.{Clause};
+ghost use Rattle.where_plan.specs.Plans.{FitsColumn, FitsSchema, IsPlan};
+ghost use Rattle.where_plan.specs.PlanHolds.{is_asked_for};
+ghost use Rattle.where_plan.specs.declared.plan.Plan.{Plan};
 ghost use Rattle.where_plan.specs.SpansOf.{AreSpansOf, code_meets, code_range};
 ghost use Rattle.where_plan.specs.declared.plan.Plan.TheVariants as plan;
 ghost use Rattle.where_plan.specs.declared.plan.PlanAtom.TheVariants as atom;
+ghost use Rattle.wah_logic.specs.Logic.{ones};
 ghost use Rattle.world.specs.World.{IsPartition, Partition};
-ghost use Rattle.two_stage.specs.Answers.{checked_in, definite_in, possible_in};
+ghost use Rattle.two_stage.specs.Answers.{checked_in, definite_in, possible_in, rows_that_hold};
 ghost use Rattle.two_stage.specs.BinRuns.{AreRunsOf, run, runs_of};
 ghost use Rattle.two_stage.specs.Bitmaps.{bitmap_looks, bins_say, needed_of, work_of};
-ghost use Rattle.two_stage.specs.Columns.{bins_of};
 ghost use Rattle.two_stage.specs.Files.{is_bitmap_of, is_free_of, is_of_rows};
 ghost use Rattle.two_stage.specs.Known.{between, known, over};
 ghost use Rattle.two_stage.specs.Parts.{meaning_of};
@@ -51,6 +53,23 @@ pub fn what_spans_say()
 pub fn what_is_known()
     ensures { (dir : List ℕ) (schema : List Column) (part : Partition) → IsPartition schema part
         → IsMeaningOf (length part.records) (FitsColumn schema) (meaning_of dir schema part) }
+{}
+
+/// The two numbers of an estimate enclose the number of the partition's records that the plan holds of.
+pub fn estimates_enclose_hits()
+    ensures definite { (dir : List ℕ) (schema : List Column) (part : Partition) (planned : Plan)
+        → IsPartition schema part → FitsSchema schema planned
+        → definite_in dir schema part planned ≤ ones (rows_that_hold planned part) }
+    ensures possible { (dir : List ℕ) (schema : List Column) (part : Partition) (planned : Plan)
+        → IsPartition schema part → FitsSchema schema planned
+        → ones (rows_that_hold planned part) ≤ possible_in dir schema part planned }
+{}
+
+/// The rows that are answered for the plan of a query's clause are those of the records that the clause asks for.
+pub fn the_rows_of_clauses()
+    ensures { (schema : List Column) (part : Partition) (asked : Option Clause) (planned : Plan)
+        → IsPartition schema part → IsPlan schema asked planned
+        → rows_that_hold planned part ≡ map (is_asked_for asked schema) part.records }
 {}
 
 /// The numbers 1 to 10 in bins below 4, from 4 to 7 and from 8 on, under the four encodings.

@@ -23,7 +23,8 @@ mod walk;
 pub use answering::{estimate, evaluate};
 pub use fault::EvalFault;
 pub use laws::{
-    runs_of_bins, the_answers_of_words, the_bitmaps_of_conditions, the_numbers_of_plans, the_reads_of_columns, what_is_known, what_spans_say,
+    estimates_enclose_hits, runs_of_bins, the_answers_of_words, the_bitmaps_of_conditions,
+    the_numbers_of_plans, the_reads_of_columns, the_rows_of_clauses, what_is_known, what_spans_say,
 };
 pub use stages::{Bounds, Hits};
 

@@ -180,6 +180,26 @@ fn words_and_texts(rt: HostRuntime) -> Result<(), Fail> {
     Ok(())
 }
 
+/// A clause of so many conditions `a < 9`.
+fn or_of<R: Abort + AllocGlobal>(rt: &R, count: u32) -> Vec<u8> {
+    let mut text = Vec::new(rt.alloc());
+    for _ in 1..count {
+        assert!(rt; text.extend_from_slice(b"a < 9 or ").is_ok());
+    }
+    assert!(rt; text.extend_from_slice(b"a < 9").is_ok());
+    text
+}
+
+#[test]
+fn an_or_of_a_thousand(rt: HostRuntime) -> Result<(), Fail> {
+    let bytes = or_of(&rt, 1000);
+    match str::from_utf8(&bytes) {
+        Ok(text) => gives(&rt, TEN, &[], "D", text, (7, 10, 8, 3000)),
+        Err(_) => rt.panic("no text"),
+    }
+    Ok(())
+}
+
 /// A read: where it began, and how many bytes it had room for.
 type Read = (u64, u64);
 

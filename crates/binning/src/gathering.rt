@@ -53,7 +53,7 @@ impl Model for Gatherer {
 
     ghost view = { λ g. record { rule = g.rule; groups = g.groups.items; places = g.places.items } };
 
-    ghost invariant = { λ g. Knows g.known (keys_in g.groups.items) × AreDistinct (keys_in g.groups.items) × (length g.groups.items ≤ length g.places.items) × (length g.places.items ≤ most_bits) };
+    ghost invariant = { λ g. Knows g.known.map (keys_in g.groups.items) × AreDistinct (keys_in g.groups.items) × (length g.groups.items ≤ length g.places.items) × (length g.places.items ≤ most_bits) };
 }
 
 /// The value of a row, where there is one.
@@ -75,12 +75,12 @@ fn put_row(
     cell: Option<i128>,
 ) -> Result<u32, AllocError>
     requires within { IfSome cell IsInRange }
-    requires knows { Knows known.old (keys_in groups.old.items) }
+    requires knows { Knows known.old.map (keys_in groups.old.items) }
     requires distinct { AreDistinct (keys_in groups.old.items) }
     requires few { length groups.old.items < most_bits }
     ensures groups { OnOk result (groups.new.items ≡ groups_after rule.now groups.old.items cell) }
     ensures places { OnOk result (places.new.items ≡ places.old.items ++ place_of rule.now (keys_in groups.old.items) cell ∷ []) }
-    ensures knows { OnOk result (Knows known.new (keys_in groups.new.items)) }
+    ensures knows { OnOk result (Knows known.new.map (keys_in groups.new.items)) }
 {
     let Some(v) = cell else {
         places.push(NO_PLACE)?;
@@ -102,11 +102,11 @@ fn put_rows(
 ) -> Result<(), AllocError>
     requires same { length is_there.now ≡ length values.now }
     requires within { AllByRecursion IsInRange values.now }
-    requires knows { Knows known.old (keys_in groups.old.items) }
+    requires knows { Knows known.old.map (keys_in groups.old.items) }
     requires distinct { AreDistinct (keys_in groups.old.items) }
     requires few { length groups.old.items ≤ length places.old.items }
     requires room { length places.old.items + length values.now ≤ most_bits }
-    ensures knows { OnOk result (Knows known.new (keys_in groups.new.items)) }
+    ensures knows { OnOk result (Knows known.new.map (keys_in groups.new.items)) }
     ensures distinct { OnOk result (AreDistinct (keys_in groups.new.items)) }
     ensures few { OnOk result (length groups.new.items ≤ length places.new.items) }
     ensures rows { OnOk result (length places.new.items ≡ length places.old.items + length values.now) }

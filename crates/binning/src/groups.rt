@@ -30,11 +30,11 @@ fn is_at(groups: &[Group], place: usize, key: i128) -> bool
 /// guessed.
 #[inline(always)]
 fn find(known: &mut KeyPlaces, groups: &[Group], last: u32, key: i128) -> Option<u32>
-    requires knows { Knows known.old (keys_in groups.now) }
+    requires knows { Knows known.old.map (keys_in groups.now) }
     requires few { length groups.now ≤ most_bits }
     requires distinct { AreDistinct (keys_in groups.now) }
     ensures place { result ≡ place_if key (keys_in groups.now) }
-    ensures knows { Knows known.new (keys_in groups.now) }
+    ensures knows { Knows known.new.map (keys_in groups.now) }
 {
     if is_at(groups, last as usize, key) {
         return Some(last);
@@ -64,12 +64,12 @@ fn add_group(
     key: i128,
     v: i128,
 ) -> Result<u32, AllocError>
-    requires knows { Knows known.old (keys_in groups.old.items) }
+    requires knows { Knows known.old.map (keys_in groups.old.items) }
     requires few { length groups.old.items < most_bits }
     requires absent { is_in key (keys_in groups.old.items) ≡ false }
     ensures groups { OnOk result (groups.new.items ≡ with_value groups.old.items key v) }
     ensures place { IfOk result (λ place. place ≡ length groups.old.items) }
-    ensures knows { OnOk result (Knows known.new (keys_in groups.new.items)) }
+    ensures knows { OnOk result (Knows known.new.map (keys_in groups.new.items)) }
 {
     let place = groups.len() as u32;
     known.insert(key, place)?;
@@ -89,12 +89,12 @@ pub(crate) fn place(
     key: i128,
     v: i128,
 ) -> Result<u32, AllocError>
-    requires knows { Knows known.old (keys_in groups.old.items) }
+    requires knows { Knows known.old.map (keys_in groups.old.items) }
     requires few { length groups.old.items < most_bits }
     requires distinct { AreDistinct (keys_in groups.old.items) }
     ensures groups { OnOk result (groups.new.items ≡ with_value groups.old.items key v) }
     ensures place { IfOk result (λ place. place ≡ place_in key (keys_in groups.old.items)) }
-    ensures knows { OnOk result (Knows known.new (keys_in groups.new.items)) }
+    ensures knows { OnOk result (Knows known.new.map (keys_in groups.new.items)) }
 {
     match find(known, groups, last, key) {
         Some(place) => {

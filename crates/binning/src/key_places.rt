@@ -5,7 +5,6 @@ ghost use Rattle.std.specs.HashMap.{get, IsEmpty};
 
 use std::alloc::{AllocError, Global};
 use std::collections::HashMap;
-use std::marker::Model;
 
 /// The place of a row that has no value.
 pub(crate) const NO_PLACE: u32 = u32::MAX;
@@ -14,19 +13,11 @@ pub(crate) const NO_PLACE: u32 = u32::MAX;
 const GUESSES: usize = 131_072;
 
 /// The places of keys by a hash map. Before it a small table guesses: it keeps, by a part of the key's hash, the place
-/// of the key looked up last, which may be another key's. Contracts see the map.
+/// of the key looked up last, which may be another key's.
 #[derive(Drop)]
 pub struct KeyPlaces {
     map: HashMap<i128, u32>,
     guesses: Vec<u32>,
-}
-
-impl Model for KeyPlaces {
-    ghost use Rattle.binning.specs.Gathered.{Known};
-
-    ghost Value = { Known };
-
-    ghost view = { λ k. k.map };
 }
 
 /// The slot of a key's guess, by Fibonacci hashing.
@@ -40,7 +31,7 @@ fn slot(key: i128) -> usize {
 impl KeyPlaces {
     /// No key yet, and no room for guesses.
     pub(crate) fn new(alloc: Global) -> KeyPlaces
-        ensures { IsEmpty result }
+        ensures { IsEmpty result.map }
     {
         KeyPlaces {
             map: HashMap::new(alloc),
@@ -50,7 +41,7 @@ impl KeyPlaces {
 
     /// Makes room for guesses.
     pub(crate) fn make_room(&mut self) -> Result<(), AllocError>
-        ensures { self.new ≡ self.old }
+        ensures { self.new.map ≡ self.old.map }
     {
         self.guesses.resize(GUESSES, NO_PLACE)?;
         Ok(())
@@ -65,7 +56,7 @@ impl KeyPlaces {
     /// Keeps the place as the guess for its key.
     #[inline(always)]
     fn note(&mut self, key: i128, place: u32)
-        ensures { self.new ≡ self.old }
+        ensures { self.new.map ≡ self.old.map }
     {
         if let Some(guess) = self.guesses.get_mut(slot(key)) {
             *guess = place;
@@ -74,8 +65,8 @@ impl KeyPlaces {
 
     /// The place of a key, which is the guess from now on.
     pub(crate) fn get(&mut self, key: i128) -> Option<u32>
-        ensures value { result ≡ get int_eq self.old key }
-        ensures same { self.new ≡ self.old }
+        ensures value { result ≡ get int_eq self.old.map key }
+        ensures same { self.new.map ≡ self.old.map }
     {
         let found = self.map.get(&key).copied();
         if let Some(place) = found {
@@ -86,7 +77,7 @@ impl KeyPlaces {
 
     /// Puts a key in, with its place.
     pub(crate) fn insert(&mut self, key: i128, place: u32) -> Result<(), AllocError>
-        ensures { OnOk result ((k : ℤ) → get int_eq self.new k ≡ (if int_eq key k then Some place else get int_eq self.old k)) }
+        ensures { OnOk result ((k : ℤ) → get int_eq self.new.map k ≡ (if int_eq key k then Some place else get int_eq self.old.map k)) }
     {
         self.map.insert(key, place)?;
         self.note(key, place);

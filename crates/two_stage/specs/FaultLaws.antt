@@ -1,5 +1,5 @@
 -- Want of memory is no failure of the store.
-use Rattle.std.specs.Prelude.{◌≡◌, sym, subst}
+use Rattle.std.proofs.Common.{◌≡◌, sym, subst}
 use Rattle.two_stage.specs.Faults.{IsOfMemory, IsOfStore}
 use Rattle.two_stage.specs.declared.fault.EvalFault.{EvalFault}
 use Rattle.two_stage.specs.declared.fault.EvalFault.TheVariants.{Col, Index, Words, Text, OutOfMemory}

@@ -7,14 +7,14 @@ use Rattle.stages.proofs.ListLemmas.{all_at}
 use Rattle.stages.proofs.first.settle_all.Goals as goal
 
 pub settle-requires : goal.settle-requires
-settle-requires g c = all_at (g.C.Conditions.fits c.args.conditions.now) c.args.atoms.now c.loop-place.place c.at.result.now c.requires c.at.ensures
+settle-requires g c = record { fits = all_at (g.C.Conditions.fits c.args.conditions.now) c.args.atoms.now c.loop-place.place c.at.result.now c.requires c.at.ensures }
 
 pub loop-place-init : goal.loop-place-init
 loop-place-init g c =
     let files = g.S.Store.files c.args.store.now in
     record {
-      faults = refl;
-      files = refl;
+      unfailed = refl;
+      kept = refl;
       settled = none_settled (g.C.Conditions.means c.args.conditions.now files) (g.C.Conditions.is_open c.args.conditions.now files) (g.C.Conditions.rows c.args.conditions.now) c.args.atoms.now (g.S.Store.reads c.args.store.now) c.args.steps.now;
     }
 
@@ -35,16 +35,16 @@ loop-place-preserved g c =
     let mid = g.S.Store.reads c.loop-place.store in
     let new = g.S.Store.reads c.settle.new.store in
     let now = c.settle.new.steps in
-    let still = λ (m : Meaning) (is : means m). subst (λ f. g.C.Conditions.means on f m) (sym before.files) is in
+    let still = λ (m : Meaning) (is : means m). subst (λ f. g.C.Conditions.means on f m) (sym before.kept) is in
     let ok : IsOk c.settle.result = rw c.in_ok-settled.was refl in
     let more = one_settled means is_open rows atoms old c.args.steps.now place c.loop-place.answers.items c.loop-place.opened.items mid new c.loop-place.steps now atom made.answers made.column before.settled c.at.ensures said.length
-    (subst (λ f. g.C.Conditions.is_open on f atom made.column) before.files said.opened)
+    (subst (λ f. g.C.Conditions.is_open on f atom made.column) before.kept said.opened)
     (λ m is. said.answers m (still m is))
     (λ m is. adds_done mid new (m.is_free atom) m.is_bitmap (m.fetched atom) (IsOk c.settle.result) (Unit {0}) (λ u. ok) (c.settle.ensures.reads m (still m is)))
     (λ m is. c.settle.ensures.steps m (still m is)) in
     record {
-      faults = (rw c.in_ok-settled.was at c.settle.ensures.cause).told (λ e. e) ∙ before.faults;
-      files = c.settle.ensures.files ∙ before.files;
+      unfailed = (rw c.in_ok-settled.was at c.settle.ensures.cause).told (λ e. e) ∙ before.unfailed;
+      kept = c.settle.ensures.files ∙ before.kept;
       settled = subst (λ l. Settles means is_open rows atoms old c.args.steps.now (place + 1) l c.keep-2.new.list.items new now) (sym c.in_ok-keep.ensures)
           (subst (λ l. Settles means is_open rows atoms old c.args.steps.now (place + 1) (c.loop-place.answers.items ++ made.answers ∷ []) l new now) (sym c.in_ok-keep-2.ensures) more);
     }

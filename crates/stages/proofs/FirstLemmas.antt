@@ -3,7 +3,7 @@ use Rattle.std.proofs.Common.{◌≡◌, ℕ, zero, suc, ◌+◌, ◌*◌, ◌<�
 use Rattle.std.specs.Prelude.{◌⊎◌, slice_get}
 use Rattle.std.specs.List.{flat_map, list_any, sum_by}
 use Rattle.std.proofs.Math.Nat.{mul-le-mul_left}
-use Rattle.std.proofs.lemmas.List.Elements.{All-append}
+use Rattle.std.proofs.lemmas.List.Elements.{All-append, All-from_recursion}
 use Rattle.std.proofs.lemmas.Option.{get_or_from_slice_get, slice_get-get_or, slice_get_within}
 use Rattle.binning.specs.declared.against_bins.Three.{Three}
 use Rattle.fb_outside.specs.Reads.{Look}
@@ -23,7 +23,7 @@ is_free_of m atoms look = list_any (λ atom. m.is_free atom look) atoms
 -- The first conditions up to a place are settled.
 pub record Settles {O : Type 0} (means : Meaning → Type 0) (is_open : PlanAtom → O → Type 0) (rows : ℕ) (atoms : List PlanAtom) (old : Option (List Look)) (before : ℕ) (place : ℕ) (answers : List (List Three)) (open_ : List O) (new : Option (List Look)) (now : ℕ) : Type 0 where
   pub number : length answers ≡ place
-  pub columns : length open_ ≡ place
+  pub opened : length open_ ≡ place
   pub long : All (λ a. length a ≡ rows) answers
   pub are_open : AreOpen is_open atoms open_
   pub answered : (m : Meaning) → means m → answers ≡ columns m.rows m.answer (take place atoms)
@@ -33,8 +33,8 @@ pub record Settles {O : Type 0} (means : Meaning → Type 0) (is_open : PlanAtom
 pub none_settled : {O : Type 0} (means : Meaning → Type 0) (is_open : PlanAtom → O → Type 0) (rows : ℕ) (atoms : List PlanAtom) (old : Option (List Look)) (before : ℕ) → Settles {O = O} means is_open rows atoms old before 0 [] [] old before
 none_settled means is_open rows atoms old before = record {
   number = refl;
-  columns = refl;
-  long = λ i h. absurd (omega arith);
+  opened = refl;
+  long = All-from_recursion (λ a. length a ≡ rows) [] tt;
   are_open = λ place atom column h k. absurd cc;
   answered = λ m is. refl;
   reads = λ m is. adds_none old old (is_free_of m atoms) m.is_bitmap (Unit {0}) refl;
@@ -73,9 +73,9 @@ pub one_settled : {O : Type 0} (means : Meaning → Type 0) (is_open : PlanAtom 
     → Settles means is_open rows atoms old before (place + 1) (answers ++ made ∷ []) (open_ ++ column ∷ []) new now
 one_settled means is_open rows atoms old before place answers open_ mid new then_ now atom made column h at long is answered reads steps = record {
   number = omega (arith, h.number, length-append answers (made ∷ []));
-  columns = omega (arith, h.columns, length-append open_ (column ∷ []));
+  opened = omega (arith, h.opened, length-append open_ (column ∷ []));
   long = All-append (λ a. length a ≡ rows) answers (made ∷ []) h.long (one_long (λ a. length a ≡ rows) made long);
-  are_open = open_more is_open atoms open_ atom column h.are_open (ap (slice_get atoms) h.columns ∙ at) is;
+  are_open = open_more is_open atoms open_ atom column h.are_open (ap (slice_get atoms) h.opened ∙ at) is;
   answered = λ m means_.
       ap (λ l. l ++ made ∷ []) (h.answered m means_) ∙ ap (λ l. columns m.rows m.answer (take place atoms) ++ l ∷ []) (answered m means_)
       ∙ sym (map_taken (λ a. each_row m.rows (λ row. m.answer row a)) atoms place atom at);

@@ -4,7 +4,7 @@ use Rattle.std.specs.Prelude.{slice_get}
 use Rattle.std.specs.List.{count_by, list_any, range_with_len, sum_by}
 use Rattle.std.proofs.lemmas.List.FromFn.{get_or-map-range_with_len}
 use Rattle.std.proofs.lemmas.List.{length-map}
-use Rattle.std.proofs.lemmas.List.Elements.{All-append}
+use Rattle.std.proofs.lemmas.List.Elements.{All-append, All-from_recursion}
 use Rattle.std.proofs.lemmas.List.Sums.{count_by-le-length}
 use Rattle.binning.specs.declared.against_bins.Three.{Three}
 use Rattle.binning.specs.declared.against_bins.Three.TheVariants.{Yes, No, Unknown}
@@ -40,7 +40,7 @@ pub record Decided (means : Meaning → Type 0) (rows : ℕ) (unknown : List Boo
 pub none_decided : (means : Meaning → Type 0) (rows : ℕ) (unknown : List Bool) (atoms : List PlanAtom) (old : Option (List Look)) (before : ℕ) → Decided means rows unknown atoms old before 0 [] 0 old before
 none_decided means rows unknown atoms old before = record {
   number = refl;
-  long = λ i h. absurd (omega arith);
+  long = All-from_recursion (λ a. length a ≡ rows) [] tt;
   few = omega arith;
   steps = omega arith;
   answered = λ m is. refl;

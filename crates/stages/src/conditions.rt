@@ -1,5 +1,7 @@
 //! What the walks ask of the conditions of plans.
-ghost use Rattle.std.specs.Prelude.{◌≡◌, ◌⊎◌, ℕ, ◌+◌, ◌*◌, ◌≤◌, Option, IfErr, IfOk, IsOk, AllocError, length};
+ghost use Rattle.std.specs.Prelude.{◌≡◌, ◌⊎◌, ℕ, ◌+◌, ◌*◌, ◌≤◌, Option, [], IfErr, IfOk, IsOk, length};
+ghost use Rattle.std.specs.declared.alloc.AllocError.{AllocError};
+ghost use Rattle.where_plan.specs.declared.plan.PlanAtom.{PlanAtom};
 ghost use Rattle.fb_outside.specs.Causes.{HasCause};
 ghost use Rattle.fb_outside.specs.Files.{Files, SameFiles};
 ghost use Rattle.wah_iter.specs.Rows.{rows_of};

@@ -49,13 +49,13 @@ fn find<S: Store, C: Conditions, L: Ledger>(
     atom: &PlanAtom,
     column: &C::Column,
     candidates: Wah,
-    number: u64,
+    count: u64,
     steps: &mut Steps<L>,
 ) -> Result<Wah, C::Fault>
     requires fits { C.fits conditions.now atom.now }
     requires opened { C.is_open conditions.now (S.files store.old) atom.now column.now }
     requires length { length candidates ≡ C.rows conditions.now }
-    requires number { number ≡ ones candidates }
+    requires number { count ≡ ones candidates }
     requires unknown { (m : Meaning) → C.means conditions.now (S.files store.old) m → AreUnknown m atom.now candidates }
     ensures cause { HasCause (S.faults store.old) (S.faults store.new) (IsRefused result C.is_store) }
     ensures files { SameFiles (S.files store.old) (S.files store.new) }
@@ -68,7 +68,7 @@ fn find<S: Store, C: Conditions, L: Ledger>(
     ensures whole { IfErr result (λ fault. (m : Meaning) → C.means conditions.now (S.files store.old) m → C.is_store fault ⊎ C.is_memory fault) }
     ensures reads { (m : Meaning) → C.means conditions.now (S.files store.old) m → AddsLooks (S.reads store.old) (S.reads store.new) (is_allowed_on m atom.now (rows_of candidates)) m.is_bitmap [] (IsOk result) }
 {
-    if number == 0 {
+    if count == 0 {
         return Ok(candidates);
     }
     conditions.check(alloc, store, atom, column, &candidates, steps)

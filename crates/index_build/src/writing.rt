@@ -1,14 +1,15 @@
 //! Bins written as an index.
 
-ghost use Rattle.std.specs.Prelude.{◌≡◌, ◌≢◌, ◌≤◌, ℤ, List, Option, IfErr, IfOk, IsErrOf, IsSome, OnOk, length, map};
+ghost use Rattle.std.specs.Prelude.{◌≡◌, ◌≢◌, ◌≤◌, IfErr, IfOk, IsErrOf, IsSome, OnOk, length, map};
 ghost use Rattle.fb_outside.specs.Causes.{HasCause};
-ghost use Rattle.fb_outside.specs.Files.{PutLeaves, Puts, SameFiles};
+ghost use Rattle.fb_outside.specs.Files.{SameFiles};
 ghost use Rattle.wah_words.specs.Limits.{most_bits};
 ghost use Rattle.index_spec.specs.Counts.{bitmap_count};
 ghost use Rattle.index_spec.specs.Language.{IsGiven};
 ghost use Rattle.index_file.specs.IndexFile.{index_bytes};
 ghost use Rattle.binning.specs.Encodings.{vectors};
 ghost use Rattle.binning.specs.Members.{bitmaps_of};
+ghost use Rattle.index_build.specs.Build.{AnswersOver, LeavesIndex};
 ghost use Rattle.index_build.specs.Index.{AreOfColumn, Tells};
 ghost use Rattle.world.specs.IndexFiles.{edge_of};
 

@@ -35,7 +35,7 @@ use Rattle.dataset.proofs.ListLemmas.{map-at}
 use Rattle.statuses.specs.declared.stop.Unanswered.TheVariants.{Refused}
 use Rattle.ibis.specs.declared.rows.RowsFault.{RowsFault}
 use Rattle.ibis.specs.declared.rows.RowsFault.TheVariants.{Short, Store}
-use Rattle.ibis.specs.Count.{damaged_status}
+use Rattle.statuses.specs.Opening.{damaged_status}
 use Rattle.ibis.specs.declared.query.Below.{Below}
 use Rattle.ibis.specs.Looks.{IsAskedLook, IsColumnLook, IsCountLook}
 use Rattle.ibis.specs.Query.{read_query}

@@ -1,6 +1,6 @@
 use Rattle.std.proofs.Common.{refl, ap}
 use Rattle.dataset.specs.Found.{Broken, There}
-use Rattle.ibis.proofs.opening.opened.Goals as goal
+use Rattle.statuses.proofs.opening.opened.Goals as goal
 
 pub returns-in-Ok-clause-finds : goal.returns-in-Ok-clause-finds
 returns-in-Ok-clause-finds g c = record { found = There c.in-Ok.dataset; told = c.in-Ok.ensures.opened; is = refl }

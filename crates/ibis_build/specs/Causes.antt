@@ -1,6 +1,5 @@
 -- Why a request for indexes ends as it does, and which files it changes, over any files.
 use Rattle.std.specs.Prelude.{◌≡◌, ◌⊎◌, ◌*◌, ⊤, ℕ, ℤ, Bool, List, length, Option, Some, None, IfSome, Result, Ok, Err, IfOk, slice_get}
-use Rattle.std.specs.List.{Contains}
 use Rattle.fb_outside.specs.Files.{ChangesAmong, Files, SameFiles}
 use Rattle.fb_types.specs.declared.schemas.Column.{Column}
 use Rattle.index_spec.specs.Counts.{bitmap_count}
@@ -25,10 +24,11 @@ use Rattle.ibis_build.specs.Builds.{Asked, asked_of}
 
 -- ---- the columns that are indexed
 
--- the column stands at one of these places
+-- the column stands in the schema at one of these places
 pub record IsAmong (schema : List Column) (cols : List ℕ) (column : Column) : Type 0 where
+  pub place : ℕ
   pub col : ℕ
-  pub asked : Contains cols col
+  pub asked : slice_get cols place ≡ Some col
   pub in_schema : slice_get schema col ≡ Some column
 
 -- the index of one of these columns in a part that the dataset lists

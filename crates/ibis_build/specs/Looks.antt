@@ -1,11 +1,9 @@
 -- What a request for indexes reads.
-use Rattle.std.specs.Prelude.{◌≡◌, ◌⊎◌, ℕ, List, Option, Some, None}
-use Rattle.std.specs.List.{Contains}
+use Rattle.std.specs.Prelude.{◌≡◌, ◌⊎◌, ℕ, List, Option, Some, None, slice_get}
 use Rattle.fb_outside.specs.Reads.{Look}
 use Rattle.fb_types.specs.declared.schemas.Column.{Column}
-use Rattle.fb_types.specs.Field.{trimmed}
-use Rattle.fb_types.specs.Names.{IsColumnName, column_name}
-use Rattle.fb_types.specs.SchemaText.{items_of}
+use Rattle.fb_types.specs.Names.{IsColumnName}
+use Rattle.fb_types.specs.SchemaText.{SpellsName, items_of}
 use Rattle.dataset.specs.Opened.{IsTextLook}
 use Rattle.dataset.specs.declared.content.Dataset.{Dataset}
 use Rattle.index_build.specs.Build.{IsColumnLook}
@@ -13,9 +11,10 @@ use Rattle.ibis_build.specs.Causes.{IsAmong}
 
 -- a piece of the list spells this name
 pub record IsListed (list name : List ℕ) : Type 0 where
+  pub place : ℕ
   pub piece : List ℕ
-  pub there : Contains (items_of list) piece
-  pub spells : column_name (trimmed piece) ≡ Some name
+  pub there : slice_get (items_of list) place ≡ Some piece
+  pub spells : SpellsName piece name
 
 -- the name of a column that is asked for: one that the list has, or any where there is no list
 abbrev pub IsAskedName : (list : Option (List ℕ)) → List ℕ → Type 0

@@ -1,0 +1,5 @@
+pub mod TaskLemmas
+pub mod ColumnLemmas
+pub mod WorldLemmas
+pub mod FileLemmas
+pub mod BuildLemmas

@@ -23,22 +23,22 @@ use Rattle.statuses.specs.declared.Status.{Status}
 use Rattle.statuses.specs.declared.stop.Unanswered.{Unanswered}
 use Rattle.statuses.specs.declared.stop.Unanswered.TheVariants.{Refused, StoreFault, OutOfMemory}
 use Rattle.ibis_build.specs.Builds.{Asked}
-use Rattle.ibis_build.specs.Causes.{Damages, HasTooMany, IsAmong, IsIndexName, IsRefused, Passes, StopsIn}
+use Rattle.ibis_build.specs.Causes.{Damages, HasPartIndexes, HasTooMany, IsAmong, IsIndexName, IsPartIndex, IsRefused, Passes, StopsIn}
 use Rattle.ibis_build.specs.Looks.{IsLookAmong}
 
 module _ (dataset : Dataset) (valid : IsDataset dataset) (cols : List ℕ) where
-  part-low : (place : ℕ) (part : PartMeta) → slice_get dataset.parts place ≡ Some part → part.number < 4096
+  pub part-low : (place : ℕ) (part : PartMeta) → slice_get dataset.parts place ≡ Some part → part.number < 4096
   part-low place part listed = (All-at (IsPartOf dataset) dataset.parts place part listed valid.parts).0.number
 
-  column-called : (col : ℕ) (column : Column) → slice_get dataset.schema col ≡ Some column → IsColumnName column.name
+  pub column-called : (col : ℕ) (column : Column) → slice_get dataset.schema col ≡ Some column → IsColumnName column.name
   column-called col column e = All-at (λ (c : Column). IsColumnName c.name) dataset.schema col column e valid.catalog.schema.named
 
   -- a file of another kind is no index
   no-index : (number : ℕ) (name : List ℕ) (kind : FileKind) → number < 4096 → IsCalled kind (Some name) → kind ≢ file.Index
       → IsIndexName dataset cols (file_name dataset.dir number (Some name) kind) → ⊥
   no-index number name kind few called other h =
-      other (same_file dataset.dir dataset.dir number h.part.number (Some name) (Some h.column.name) kind file.Index few
-      (part-low h.place h.part h.listed) called (column-called h.among.col h.column h.among.in_schema) h.is).3
+      other (same_file dataset.dir dataset.dir number h.part.number (Some name) (Some h.index.column.name) kind file.Index few
+      (part-low h.place h.part h.listed) called (column-called h.index.among.col h.index.column h.index.among.in_schema) h.index.is).3
 
   module _ (old new : Option Files) (h : ChangesAmong (IsIndexName dataset cols) old new) where
     stays : (number : ℕ) (name : List ℕ) (kind : FileKind) → number < 4096 → IsCalled kind (Some name) → kind ≢ file.Index
@@ -77,7 +77,7 @@ module _ (dataset : Dataset) (valid : IsDataset dataset) (cols : List ℕ) where
           told = d.told;
         }
 
-    rows-stay : (part : PartMeta) (column : Column) (mask : List Bool) (numbers : List ℤ) → part.number < 4096 → IsColumnName column.name
+    pub rows-stay : (part : PartMeta) (column : Column) (mask : List Bool) (numbers : List ℤ) → part.number < 4096 → IsColumnName column.name
         → HasRows m dataset.dir part column mask numbers → HasRows m' dataset.dir part column mask numbers
     rows-stay part column mask numbers few called r =
         record {
@@ -128,16 +128,8 @@ among-one schema cols place col column there h = record { place = place; col = h
     only (suc k) e = absurd (cc)
 
 module _ (dataset : Dataset) (cols : List ℕ) (place col : ℕ) (there : slice_get cols place ≡ Some col) where
-  pub name-one : (name : List ℕ) → IsIndexName dataset (col ∷ []) name → IsIndexName dataset cols name
-  name-one name h =
-      record {
-        part = h.part;
-        place = h.place;
-        listed = h.listed;
-        column = h.column;
-        among = among-one dataset.schema cols place col h.column there h.among;
-        is = h.is;
-      }
+  pub name-one : (part : PartMeta) (name : List ℕ) → IsPartIndex dataset part (col ∷ []) name → IsPartIndex dataset part cols name
+  name-one part name h = record { column = h.column; among = among-one dataset.schema cols place col h.column there h.among; is = h.is }
 
   pub look-one : (look : Look) → IsLookAmong dataset (col ∷ []) look → IsLookAmong dataset cols look
   look-one look h = record { column = h.column; among = among-one dataset.schema cols place col h.column there h.among; file = h.file }
@@ -150,3 +142,8 @@ module _ (dataset : Dataset) (cols : List ℕ) (place col : ℕ) (there : slice_
       Passes at part column number listed (among-one dataset.schema cols place col column there among) t is
   stop-one files spec StoreFault h = tt
   stop-one files spec OutOfMemory h = tt
+
+-- the part's are the dataset's
+pub name-listed : (dataset : Dataset) (cols : List ℕ) (place : ℕ) (part : PartMeta) (name : List ℕ) → slice_get dataset.parts place ≡ Some part
+    → IsPartIndex dataset part cols name → IsIndexName dataset cols name
+name-listed dataset cols place part name listed h = record { part = part; place = place; listed = listed; index = h }

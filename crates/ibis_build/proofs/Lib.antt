@@ -3,3 +3,4 @@ pub mod ColumnLemmas
 pub mod WorldLemmas
 pub mod FileLemmas
 pub mod BuildLemmas
+pub mod PutLemmas

@@ -1,6 +1,6 @@
 -- Why a request for indexes ends as it does, and which files it changes, over any files.
 use Rattle.std.specs.Prelude.{◌≡◌, ◌⊎◌, ◌*◌, ⊤, ℕ, ℤ, Bool, List, length, Option, Some, None, IfSome, Result, Ok, Err, IfOk, slice_get}
-use Rattle.fb_outside.specs.Files.{ChangesAmong, Files, SameFiles}
+use Rattle.fb_outside.specs.Files.{ChangesAmong, Files, SameFiles, told_at}
 use Rattle.fb_types.specs.declared.schemas.Column.{Column}
 use Rattle.index_spec.specs.Counts.{bitmap_count}
 use Rattle.index_spec.specs.Language.{spec_of}
@@ -8,6 +8,7 @@ use Rattle.index_spec.specs.declared.spec.Spec.{Spec}
 use Rattle.binning.specs.Encodings.{nested_bins}
 use Rattle.part_meta.specs.declared.part.PartMeta.{PartMeta}
 use Rattle.part_meta.specs.FileNames.{index_name}
+use Rattle.world.specs.IndexFiles.{index_of}
 use Rattle.dataset.specs.Damage.{Damage, IsColumnDamaged}
 use Rattle.dataset.specs.Found.{Found, Absent, There, Broken, IsFound}
 use Rattle.dataset.specs.declared.content.Dataset.{Dataset}
@@ -31,14 +32,18 @@ pub record IsAmong (schema : List Column) (cols : List ℕ) (column : Column) : 
   pub asked : slice_get cols place ≡ Some col
   pub in_schema : slice_get schema col ≡ Some column
 
--- the index of one of these columns in a part that the dataset lists
+-- the index of one of these columns in the part
+pub record IsPartIndex (dataset : Dataset) (part : PartMeta) (cols : List ℕ) (name : List ℕ) : Type 0 where
+  pub column : Column
+  pub among : IsAmong dataset.schema cols column
+  pub is : name ≡ index_name dataset.dir part.number column.name
+
+-- in some part that the dataset lists
 pub record IsIndexName (dataset : Dataset) (cols : List ℕ) (name : List ℕ) : Type 0 where
   pub part : PartMeta
   pub place : ℕ
   pub listed : slice_get dataset.parts place ≡ Some part
-  pub column : Column
-  pub among : IsAmong dataset.schema cols column
-  pub is : name ≡ index_name dataset.dir part.number column.name
+  pub index : IsPartIndex dataset part cols name
 
 -- ---- why an index isn't built
 
@@ -93,6 +98,25 @@ pub record BuildChanges (dir text : List ℕ) (list : Option (List ℕ)) (old ne
 -- none where nothing is asked
 abbrev pub BuildKeeps : (dir text : List ℕ) → (list : Option (List ℕ)) → Option Files → Option Files → Type 0
 BuildKeeps dir text list old new = SameFiles old new ⊎ BuildChanges dir text list old new
+
+-- ---- what it leaves when it is done
+
+-- each of these columns has its index in the part: that of the rows that its files had, by the specification
+abbrev pub HasPartIndexes : Option Files → Dataset → PartMeta → Asked → Option Files → Type 0
+HasPartIndexes old dataset part asked new =
+    (m : Files) (column : Column) (mask : List Bool) (numbers : List ℤ) → old ≡ Some m → IsAmong dataset.schema asked.cols column
+    → HasRows m dataset.dir part column mask numbers
+    → told_at new (index_name dataset.dir part.number column.name) ≡ Some (index_of asked.spec mask numbers)
+
+-- in each part
+abbrev pub HasIndexes : Option Files → Dataset → Asked → Option Files → Type 0
+HasIndexes old dataset asked new =
+    (place : ℕ) (part : PartMeta) → slice_get dataset.parts place ≡ Some part → HasPartIndexes old dataset part asked new
+
+abbrev pub BuildPuts : (dir text : List ℕ) → (list : Option (List ℕ)) → Option Files → Option Files → Type 0
+BuildPuts dir text list old new =
+    (dataset : Dataset) (asked : Asked) → IfSome old (λ m. IsFound m dir (There dataset)) → asked_of dir text list (There dataset) ≡ Ok asked
+    → HasIndexes old dataset asked new
 
 -- ---- the steps
 

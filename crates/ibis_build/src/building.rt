@@ -1,6 +1,6 @@
 //! Indexes of the columns of a dataset, built one after another.
 
-ghost use Rattle.std.specs.Prelude.{◌≡◌, [], ◌∷◌, ℕ, Ok, Some, All, IfErr, IfOk, IsErrOf, IsUtf8, is_ok, slice_get, true};
+ghost use Rattle.std.specs.Prelude.{◌≡◌, [], ◌∷◌, ℕ, Ok, Some, All, IfErr, IfOk, IsErrOf, IsUtf8, OnOk, is_ok, slice_get, true};
 ghost use Rattle.fb_outside.specs.Causes.{HasCause};
 ghost use Rattle.fb_outside.specs.Files.{ChangesAmong};
 ghost use Rattle.fb_outside.specs.Names.{IsPath};
@@ -12,7 +12,7 @@ ghost use Rattle.world.specs.World.{Content, Partition, World, content_at};
 ghost use Rattle.dataset.specs.Found.{dataset_in};
 ghost use Rattle.dataset.specs.Opened.{IsDataset};
 ghost use Rattle.ibis_build.specs.Builds.{build_outcome, part_tasks, spec_or_refusal, tasks_in};
-ghost use Rattle.ibis_build.specs.Causes.{BuildGives, BuildKeeps, IsIndexName, RefusesBy, StopsIn, stop_of_build};
+ghost use Rattle.ibis_build.specs.Causes.{BuildGives, BuildKeeps, BuildPuts, HasIndexes, HasPartIndexes, IsIndexName, IsPartIndex, RefusesBy, StopsIn, stop_of_build};
 ghost use Rattle.ibis_build.specs.Columns.{can_have_index_at};
 ghost use Rattle.ibis_build.specs.Leaves.{LeavesBuilt, LeavesTasks};
 ghost use Rattle.ibis_build.specs.Looks.{IsBuildLook, IsLookAmong};
@@ -48,8 +48,10 @@ pub fn build_indexes<S: Store, L: Ledger>(
     // The answer is the definition's, over what the path has, or a damaged or overfull column of those that are asked for.
     ensures gives { BuildGives dir.now text.now list.now (S.files store.old) result }
 
-    // Only the indexes of these columns change, and none where the request is refused before it builds.
+    // Only the indexes of these columns change, and none where the request is refused before it builds. Where it is done, each
+    // column whose files have rows has the index of these in each part.
     ensures kept { BuildKeeps dir.now text.now list.now (S.files store.old) (S.files store.new) }
+    ensures puts { OnOk result (BuildPuts dir.now text.now list.now (S.files store.old) (S.files store.new)) }
 
     // Where the files stand for a world, they stand for the world after the definition's effects, or after a front of them if it stopped.
     ensures stands { (world : World) → StandsFor (S.files store.old) world
@@ -98,6 +100,7 @@ fn build_parts<S: Store, L: Ledger>(
     ensures reads { AddsOnly (IsLookAmong dataset.now cols.now) (S.reads store.old) (S.reads store.new) }
     ensures stop { IfErr result (StopsIn (S.files store.old) dataset.now (record { spec = spec.now; cols = cols.now })) }
     ensures kept { ChangesAmong (IsIndexName dataset.now cols.now) (S.files store.old) (S.files store.new) }
+    ensures puts { OnOk result (HasIndexes (S.files store.old) dataset.now (record { spec = spec.now; cols = cols.now }) (S.files store.new)) }
     ensures stands { (world : World) (content : Content) → StandsFor (S.files store.old) world
         → content_at world dataset.now.dir ≡ Some content → dataset.now ≡ dataset_in dataset.now.dir content
         → LeavesTasks dataset.now.dir spec.now world (tasks_in spec.now content.schema cols.now content.parts) result (S.files store.new) }
@@ -125,7 +128,9 @@ fn build_part<S: Store, L: Ledger>(
     ensures cause { HasCause (S.faults store.old) (S.faults store.new) (IsErrOf result Unanswered.StoreFault) }
     ensures reads { AddsOnly (IsLookAmong dataset.now cols.now) (S.reads store.old) (S.reads store.new) }
     ensures stop { IfErr result (StopsIn (S.files store.old) dataset.now (record { spec = spec.now; cols = cols.now })) }
-    ensures kept { ChangesAmong (IsIndexName dataset.now cols.now) (S.files store.old) (S.files store.new) }
+    ensures kept { ChangesAmong (IsPartIndex dataset.now part.now cols.now) (S.files store.old) (S.files store.new) }
+    ensures puts { OnOk result (HasPartIndexes (S.files store.old) dataset.now part.now (record { spec = spec.now; cols = cols.now })
+        (S.files store.new)) }
     ensures stands { (world : World) (content : Content) (place : ℕ) (p : Partition) → StandsFor (S.files store.old) world
         → content_at world dataset.now.dir ≡ Some content → slice_get content.parts place ≡ Some p
         → content.schema ≡ dataset.now.schema → part.now ≡ part_data content.schema p
@@ -154,7 +159,9 @@ fn build_column<S: Store, L: Ledger>(
     ensures cause { HasCause (S.faults store.old) (S.faults store.new) (IsErrOf result Unanswered.StoreFault) }
     ensures reads { AddsOnly (IsLookAmong dataset.now (col ∷ [])) (S.reads store.old) (S.reads store.new) }
     ensures stop { IfErr result (StopsIn (S.files store.old) dataset.now (record { spec = spec.now; cols = col ∷ [] })) }
-    ensures kept { ChangesAmong (IsIndexName dataset.now (col ∷ [])) (S.files store.old) (S.files store.new) }
+    ensures kept { ChangesAmong (IsPartIndex dataset.now part.now (col ∷ [])) (S.files store.old) (S.files store.new) }
+    ensures puts { OnOk result (HasPartIndexes (S.files store.old) dataset.now part.now (record { spec = spec.now; cols = col ∷ [] })
+        (S.files store.new)) }
     ensures stands { (world : World) (content : Content) (place : ℕ) (p : Partition) → StandsFor (S.files store.old) world
         → content_at world dataset.now.dir ≡ Some content → slice_get content.parts place ≡ Some p
         → content.schema ≡ dataset.now.schema → part.now ≡ part_data content.schema p

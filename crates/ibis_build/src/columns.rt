@@ -50,9 +50,16 @@ fn listed_columns(alloc: Global, schema: &Schema, list: &[u8]) -> Result<Vec<usi
     let mut cols = Vec::with_capacity(alloc, pieces.len())?;
     for piece in &pieces {
         let col = listed_column(alloc, schema, &cols, piece)?;
-        cols.push(col)?;
+        add(&mut cols, col)?;
     }
     Ok(cols)
+}
+
+fn add(cols: &mut Vec<usize>, col: usize) -> Result<(), AllocError>
+    ensures { OnOk result (cols.new.items ≡ cols.old.items ++ col ∷ []) }
+{
+    cols.push(col)?;
+    Ok(())
 }
 
 /// What stands between the commas.

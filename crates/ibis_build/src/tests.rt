@@ -159,3 +159,30 @@ fn a_damaged_column_leaves_the_indexes_before_it(rt: HostRuntime) -> Result<(), 
     assert_eq!(rt; built(&rt, &store), 2);
     Ok(())
 }
+
+#[test]
+fn each_call_of_the_store_fails_in_turn(rt: HostRuntime) -> Result<(), Fail> {
+    for keep_new in [false, true] {
+        let mut before = 0;
+        let mut finished = false;
+        for call in 0..60 {
+            let fails = [FailAt {
+                call: PUTS + call,
+                keep_new,
+            }];
+            let mut store = store_of(&rt, FILES, &fails);
+            let have = answer::<_, Brand>(&rt, rt.blank(), &mut store, "D", "<binning none/>", Some("c,a"))?;
+            let count = built(&rt, &store);
+            assert!(rt; before <= count);
+            before = count;
+            if have.as_str() == "done 4" {
+                assert_eq!(rt; count, 4);
+                finished = true;
+            } else {
+                assert!(rt; have.as_str() == "stopped" && !finished);
+            }
+        }
+        assert!(rt; finished);
+    }
+    Ok(())
+}

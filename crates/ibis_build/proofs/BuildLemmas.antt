@@ -22,6 +22,7 @@ use Rattle.world.specs.World.{Content, Partition, World, content_at}
 use Rattle.dataset.specs.Found.{Absent, Broken, Found, IsFound, There, dataset_in, found_by, found_in}
 use Rattle.dataset.specs.Opened.{IsTextLook}
 use Rattle.dataset.specs.declared.content.Dataset.{Dataset}
+use Rattle.dataset.proofs.SameLemmas.{same_dataset}
 use Rattle.dataset.proofs.WorldLemmas.{found_is}
 use Rattle.index_build.specs.Build.{IsColumnLook}
 use Rattle.statuses.specs.declared.Status.{Status}
@@ -31,7 +32,7 @@ use Rattle.statuses.specs.declared.stop.Unanswered.TheVariants.{Refused, StoreFa
 use Rattle.statuses.specs.Opening.{Finds, Opened, dataset_or_refusal}
 use Rattle.statuses.specs.Outcome.{◌>>=◌, Outcome}
 use Rattle.ibis_build.specs.Builds.{Asked, Task, asked_of, build_outcome, effects_of, outcome_by, outcome_of_tasks, part_tasks, spec_or_refusal, task_in, tasks_in}
-use Rattle.ibis_build.specs.Causes.{BuildChanges, BuildComes, BuildGives, BuildKeeps, BuildsBy, IsIndexName, IsRefused, RefusesBy, StopsIn}
+use Rattle.ibis_build.specs.Causes.{BuildChanges, BuildComes, BuildGives, BuildKeeps, BuildPuts, BuildsBy, HasIndexes, IsIndexName, IsRefused, RefusesBy, StopsIn}
 use Rattle.ibis_build.specs.Columns.{chosen_columns}
 use Rattle.ibis_build.specs.Leaves.{LeavesBuilt, LeavesTasks, StandsWith}
 use Rattle.ibis_build.specs.Looks.{IsAskedLook, IsBuildLook, IsLookAmong}
@@ -323,6 +324,27 @@ module _ (dir text : List ℕ) (list : Option (List ℕ)) (old : Option Files) (
         asked = asked-name dataset.schema list cols w.column valid chosen w.among;
         file = subst (λ (d : List ℕ). IsColumnLook d w.column.name look) at w.file;
       })) k)
+
+  -- what is built is there, of the dataset that the path has
+  pub build-puts : (mid new : Option Files) → mid ≡ old → HasIndexes mid dataset asked new → BuildPuts dir text list old new
+  build-puts mid new same h dataset' asked' there asks' place part listed m column mask numbers at' among has =
+      moved place part listed m column mask numbers at' among has
+    where
+      is : dataset ≡ dataset'
+      is =
+          same_dataset m dir dataset dataset' (subst (λ (o : Option Files). IfSome o (λ n. IsFound n dir (There dataset))) at' told)
+          (subst (λ (o : Option Files). IfSome o (λ n. IsFound n dir (There dataset'))) at' there)
+
+      both : Ok {E = Status} asked ≡ Ok asked'
+      both = sym asks ∙ ap (λ (d : Dataset). asked_of dir text list (There d)) is ∙ asks'
+
+      alike : asked ≡ asked'
+      alike = cc
+
+      moved : HasIndexes old dataset' asked' new
+      moved =
+          subst (λ (o : Option Files). HasIndexes o dataset' asked' new) same
+          (subst (λ (a : Asked). HasIndexes mid dataset' a new) alike (subst (λ (d : Dataset). HasIndexes mid d asked new) is h))
 
   module _ (mid new : Option Files) (same : mid ≡ old) (world : World) (h : StandsFor old world) where
     here : There dataset ≡ found_in world dir

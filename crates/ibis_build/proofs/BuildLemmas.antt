@@ -4,7 +4,7 @@ use Rattle.std.specs.List.{flat_map, slice_get}
 use Rattle.std.specs.Prelude.{IfErr, IfOk}
 use Rattle.std.proofs.lemmas.Grind.{flat_map-append}
 use Rattle.std.proofs.lemmas.List.{drop_more, length-map, map-append, take-append-drop, take_all, take_more}
-use Rattle.std.proofs.lemmas.Option.{get_or_from_slice_get, slice_get_within}
+use Rattle.std.proofs.lemmas.Option.{get_or_from_slice_get, slice_get_read, slice_get_within}
 use Rattle.fb_outside.specs.Files.{ChangesAmong, Files, SameFiles}
 use Rattle.fb_outside.specs.Names.{IsPath}
 use Rattle.fb_outside.specs.Reads.{AddsOnly, Look}
@@ -22,6 +22,7 @@ use Rattle.world.specs.World.{Content, Partition, World, content_at}
 use Rattle.dataset.specs.Found.{Absent, Broken, Found, IsFound, There, dataset_in, found_by, found_in}
 use Rattle.dataset.specs.Opened.{IsTextLook}
 use Rattle.dataset.specs.declared.content.Dataset.{Dataset}
+use Rattle.dataset.proofs.ListLemmas.{map-at}
 use Rattle.dataset.proofs.SameLemmas.{same_dataset}
 use Rattle.dataset.proofs.WorldLemmas.{found_is}
 use Rattle.index_build.specs.Build.{IsColumnLook}
@@ -258,6 +259,10 @@ module _ (dir text : List ℕ) (list : Option (List ℕ)) (old new : Option File
       names-leave StoreFault e world h = stops-early world StoreFault (λ s is. absurd (cc)) h
       names-leave OutOfMemory e world h = stops-early world OutOfMemory (λ s is. absurd (cc)) h
 
+-- the texts of the dataset alone
+pub text-looks : (dir : List ℕ) (list : Option (List ℕ)) (old new : Option (List Look)) → AddsOnly (IsTextLook dir) old new → AddsOnly (IsBuildLook dir list) old new
+text-looks dir list old new h = AddsOnly-weaken (IsTextLook dir) (IsBuildLook dir list) old new (λ look w. inl w) h
+
 -- ---- a request that builds
 
 record IsIn (world : World) (dir : List ℕ) (dataset : Dataset) : Type 0 where
@@ -393,3 +398,24 @@ module _ (dir text : List ℕ) (list : Option (List ℕ)) (old : Option Files) (
         subst (λ (o : Outcome). LeavesBuilt o world (Err stop) new) (sym outcome)
         (built-stopped {A} dir spec world tasks stop new
         (subst (λ (x : Result A Unanswered). LeavesTasks dir spec world tasks x new) err (left r step)))
+
+-- ---- the parts of a dataset
+
+-- a part that is looked at is one of the dataset
+pub part-at : (dataset : Dataset) (items : List PartMeta) (k : ℕ) (part : PartMeta) → items ≡ dataset.parts → k < length items
+    → part ≡ get_or items k part → slice_get dataset.parts k ≡ Some part
+part-at dataset items k part same less is =
+    subst (λ (xs : List PartMeta). slice_get xs k ≡ Some part) same (slice_get_read items (length items) k part refl less is)
+
+-- and of the content that the dataset is of
+pub record IsPartIn (dataset : Dataset) (content : Content) (k : ℕ) (part : PartMeta) : Type 0 where
+  pub from : Partition
+  pub at : slice_get content.parts k ≡ Some from
+  pub same : content.schema ≡ dataset.schema
+  pub is : part ≡ part_data content.schema from
+
+pub part-in : (dataset : Dataset) (content : Content) (k : ℕ) (part : PartMeta) → dataset ≡ dataset_in dataset.dir content
+    → slice_get dataset.parts k ≡ Some part → IsPartIn dataset content k part
+part-in dataset content k part is listed =
+    let found = map-at (part_data content.schema) content.parts k part (ap (λ (d : Dataset). slice_get d.parts k) (sym is) ∙ listed) in
+    record { from = found.from; at = found.at; same = ap (λ (d : Dataset). d.schema) (sym is); is = sym found.is }

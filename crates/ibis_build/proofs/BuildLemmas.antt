@@ -279,6 +279,9 @@ is_in world dir dataset e = by (content_at world dir) refl
         let same : There dataset ≡ There (dataset_in dir content) = e ∙ ap (found_by dir) h in
         record { content = content; there = h; is = cc }
 
+ok_asked : (r : Result Asked Status) (a b : Asked) → r ≡ Ok a → r ≡ Ok b → a ≡ b
+ok_asked r a b e h = cc
+
 module _ (dir text : List ℕ) (list : Option (List ℕ)) (old : Option Files) (spec : Spec) (read : spec_of text ≡ Ok spec) (path : IsPath dir)
     (dataset : Dataset) (finds : Finds dir old (Ok dataset)) (at : dataset.dir ≡ dir) (cols : List ℕ)
     (chosen : chosen_columns dataset.schema list ≡ Ok cols) where
@@ -340,11 +343,10 @@ module _ (dir text : List ℕ) (list : Option (List ℕ)) (old : Option Files) (
           same_dataset m dir dataset dataset' (subst (λ (o : Option Files). IfSome o (λ n. IsFound n dir (There dataset))) at' told)
           (subst (λ (o : Option Files). IfSome o (λ n. IsFound n dir (There dataset'))) at' there)
 
-      both : Ok {E = Status} asked ≡ Ok asked'
-      both = sym asks ∙ ap (λ (d : Dataset). asked_of dir text list (There d)) is ∙ asks'
-
       alike : asked ≡ asked'
-      alike = cc
+      alike =
+          ok_asked (asked_of dir text list (There dataset')) asked asked'
+          (ap (λ (d : Dataset). asked_of dir text list (There d)) (sym is) ∙ asks) asks'
 
       moved : HasIndexes old dataset' asked' new
       moved =

@@ -1,5 +1,5 @@
 -- The columns that are indexed: each can have an index and is one that is asked for, and a list is taken where it names such columns.
-use Rattle.std.proofs.Common.{◌≡◌, ◌≢◌, ◌+◌, ◌<◌, ◌≤◌, ◌==◌, nat_lt, ℕ, zero, suc, Bool, true, false, cond, not, if◌then◌else◌, List, [], ◌∷◌, ◌++◌, length, map, get_or, Option, Some, None, option_map, IsSome, is_some, refl, sym, ap, subst, ◌∙◌, arith, append_assoc, append-nil}
+use Rattle.std.proofs.Common.{◌≡◌, ◌≢◌, ◌+◌, ◌<◌, ◌≤◌, ◌==◌, ◌||◌, nat_lt, ℕ, zero, suc, Bool, true, false, cond, not, if◌then◌else◌, List, [], ◌∷◌, ◌++◌, length, map, get_or, Option, Some, None, option_map, IsSome, is_some, refl, sym, ap, subst, ◌∙◌, arith, append_assoc, append-nil}
 use Rattle.std.specs.List.{All, AllPairs, AllZip, enumerate_from, filter, list_any, position_or_len, slice_get}
 use Rattle.std.specs.Option.{option_and_then, option_map_or}
 use Rattle.std.specs.Prelude.{Result, Ok, Err}
@@ -154,7 +154,7 @@ every-can schema front (column ∷ columns) n e size = by (can_have_index column
         let split : places (enumerate_from n (column ∷ columns)) ≡ n ∷ places (enumerate_from (n + 1) columns) =
         ap (λ (b : Bool). map (λ c. c.0) (cond b ((n, column) ∷ filter (λ c. can_have_index c.1) (enumerate_from (n + 1) columns)) (filter (λ c. can_have_index c.1) (enumerate_from (n + 1) columns)))) can in
         subst (All (λ (col : ℕ). can_have_index_at schema col ≡ true)) (sym split)
-        (All-cons (λ (col : ℕ). can_have_index_at schema col ≡ true) n (places (enumerate_from (n + 1) columns)) (ap (option_map_or can_have_index false) here ∙ can) more)
+        (All-cons (λ (col : ℕ). can_have_index_at schema col ≡ true) n (places (enumerate_from (n + 1) columns)) (ap (λ (o : Option Column). option_map_or can_have_index o false) here ∙ can) more)
     by false can =
         let split : places (enumerate_from n (column ∷ columns)) ≡ places (enumerate_from (n + 1) columns) =
         ap (λ (b : Bool). map (λ c. c.0) (cond b ((n, column) ∷ filter (λ c. can_have_index c.1) (enumerate_from (n + 1) columns)) (filter (λ c. can_have_index c.1) (enumerate_from (n + 1) columns)))) can in
@@ -179,8 +179,8 @@ pub can-column : (schema : List Column) (col : ℕ) → can_have_index_at schema
 can-column schema col can = by (slice_get schema col) refl
   where
     by : (o : Option Column) → slice_get schema col ≡ o → HasColumn schema col
-    by None e = let bad : false ≡ true = sym (ap (option_map_or can_have_index false) e) ∙ can in absurd (cc)
-    by (Some column) e = record { column = column; in_schema = e; width = sym (ap (option_map_or can_have_index false) e) ∙ can }
+    by None e = let bad : false ≡ true = sym (ap (λ (o : Option Column). option_map_or can_have_index o false) e) ∙ can in absurd (cc)
+    by (Some column) e = record { column = column; in_schema = e; width = sym (ap (λ (o : Option Column). option_map_or can_have_index o false) e) ∙ can }
 
 -- ---- the names of a list
 
@@ -233,10 +233,10 @@ not-among [] col k d free within = absurd (omega arith)
 not-among (first ∷ before) col k d free within = by (first == col) refl k within free
   where
     by : (b : Bool) → (first == col) ≡ b → (k : ℕ) → k < length (first ∷ before) → list_any (λ other. other == col) (first ∷ before) ≡ false → get_or (first ∷ before) k d ≢ col
-    by true e k within free = let bad : true ≡ false = sym (ap (λ (t : Bool). cond t true (list_any (λ other. other == col) before)) e) ∙ free in absurd (cc)
+    by true e k within free = let bad : true ≡ false = sym (ap (λ (t : Bool). t || list_any (λ other. other == col) before) e) ∙ free in absurd (cc)
     by false e zero within free = λ same. let t : (first == col) ≡ true = (Decides-eqb first col).1 same in cc
     by false e (suc k) within free =
-        not-among before col k d (sym (ap (λ (t : Bool). cond t true (list_any (λ other. other == col) before)) e) ∙ free) (omega arith)
+        not-among before col k d (sym (ap (λ (t : Bool). t || list_any (λ other. other == col) before) e) ∙ free) (omega arith)
 
 distinct-more : (schema : List Column) (before : List ℕ) (pieces : List (List ℕ)) (rest : List ℕ) → AreTaken schema before pieces rest
     → AllPairs (λ a b. a ≢ b) before → AllPairs (λ a b. a ≢ b) (before ++ rest)
@@ -319,7 +319,7 @@ column-taken : (schema : List Column) (before : List ℕ) (piece : List ℕ) (co
 column-taken schema before piece col valid n free =
     record {
       is = ap (option_and_then (place_of schema)) (name_found piece n.column.name n.named) ∙ first-place schema col n.column valid n.in_schema;
-      can = ap (option_map_or can_have_index false) n.in_schema ∙ n.width;
+      can = ap (λ (o : Option Column). option_map_or can_have_index o false) n.in_schema ∙ n.width;
       free = free;
     }
 
@@ -329,7 +329,7 @@ free-of (first ∷ before) col h = by (first == col) refl
   where
     by : (b : Bool) → (first == col) ≡ b → list_any (λ other. other == col) (first ∷ before) ≡ false
     by true e = absurd (h 0 0 (omega arith) ((Decides-eqb first col).0 e))
-    by false e = ap (λ (t : Bool). cond t true (list_any (λ other. other == col) before)) e ∙ free-of before col (λ k d within. h (suc k) d (omega arith))
+    by false e = ap (λ (t : Bool). t || list_any (λ other. other == col) before) e ∙ free-of before col (λ k d within. h (suc k) d (omega arith))
 
 get_or-left : (xs ys : List ℕ) (k d : ℕ) → k < length xs → get_or (xs ++ ys) k d ≡ get_or xs k d
 get_or-left [] ys k d within = absurd (omega arith)

@@ -42,6 +42,10 @@ pushed-at [] x (suc place) y e = absurd (cc)
 pushed-at (z ∷ xs) x zero y e = inl e
 pushed-at (z ∷ xs) x (suc place) y e = pushed-at xs x place y e
 
+single : (x n y : ℕ) → slice_get (x ∷ []) n ≡ Some y → x ≡ y
+single x zero y e = cc
+single x (suc n) y e = absurd (cc)
+
 -- columns of one name are one
 same-column : (dataset : Dataset) → IsDataset dataset → (i j : ℕ) (a b : Column) → slice_get dataset.schema i ≡ Some a → slice_get dataset.schema j ≡ Some b
     → a.name ≡ b.name → a ≡ b
@@ -89,20 +93,16 @@ module _ (dataset : Dataset) (valid : IsDataset dataset) (at : ℕ) (part : Part
         m' : (n : Files) × (mid ≡ Some n)
         m' = told-files old mid m first.told told
 
-        only : (other : Column) (place : ℕ) → IsAmong dataset.schema (col ∷ []) other → slice_get (col ∷ []) place ≡ Some col → slice_get dataset.schema col ≡ Some other
-        only other place h e = ap (slice_get dataset.schema) (single h.place h.col h.asked) ∙ h.in_schema
-          where
-            single : (n y : ℕ) → slice_get (col ∷ []) n ≡ Some y → col ≡ y
-            single zero y e = cc
-            single (suc n) y e = absurd (cc)
+        only : (other : Column) → IsAmong dataset.schema (col ∷ []) other → slice_get dataset.schema col ≡ Some other
+        only other h = ap (slice_get dataset.schema) (single col h.place h.col h.asked) ∙ h.in_schema
 
-        last : (column.name ≡ column.name) → slice_get dataset.schema col ≡ Some column
+        last : slice_get dataset.schema col ≡ Some column
             → told_at new (index_name dataset.dir part.number column.name) ≡ Some (index_of spec mask numbers)
-        last _ here = built m m'.0 column mask numbers told m'.1 (record { place = 0; col = col; asked = refl; in_schema = here }) has
+        last here = built m m'.0 column mask numbers told m'.1 (record { place = 0; col = col; asked = refl; in_schema = here }) has
 
         by : (slice_get (take k cols) among.place ≡ Some among.col) ⊎ (among.col ≡ col)
             → told_at new (index_name dataset.dir part.number column.name) ≡ Some (index_of spec mask numbers)
-        by (inr same) = last refl (ap (slice_get dataset.schema) (sym same) ∙ among.in_schema)
+        by (inr same) = last (ap (slice_get dataset.schema) (sym same) ∙ among.in_schema)
         by (inl earlier) = choose (slice_get dataset.schema col) refl
           where
             stay : ((other : Column) → IsAmong dataset.schema (col ∷ []) other → column.name ≢ other.name)
@@ -115,14 +115,14 @@ module _ (dataset : Dataset) (valid : IsDataset dataset) (at : ℕ) (part : Part
                 → told_at new (index_name dataset.dir part.number column.name) ≡ Some (index_of spec mask numbers)
             pick other e (inl same) =
                 let is : other ≡ column = same-column dataset valid col among.col other column e among.in_schema (sym same) in
-                last refl (e ∙ ap Some is)
+                last (e ∙ ap Some is)
             pick other e (inr apart) =
-                stay (λ x h. let both : Some other ≡ Some x = sym e ∙ only x 0 h refl in let is : other ≡ x = cc in
+                stay (λ x h. let both : Some other ≡ Some x = sym e ∙ only x h in let is : other ≡ x = cc in
                 λ same. apart (same ∙ ap (λ (c : Column). c.name) (sym is)))
 
             choose : (o : Option Column) → slice_get dataset.schema col ≡ o
                 → told_at new (index_name dataset.dir part.number column.name) ≡ Some (index_of spec mask numbers)
-            choose None e = stay (λ x h. let bad : None ≡ Some x = sym e ∙ only x 0 h refl in absurd (cc))
+            choose None e = stay (λ x h. let bad : None ≡ Some x = sym e ∙ only x h in absurd (cc))
             choose (Some other) e = pick other e (same_or_apart column.name other.name)
 
 -- ---- one part more

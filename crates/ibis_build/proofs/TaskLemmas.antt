@@ -153,6 +153,11 @@ tasks-count spec schema cols (part ∷ parts) =
     length-append (part_tasks spec schema cols part) (tasks_in spec schema cols parts) in
     omega (arith, first, more, both)
 
+effects-are : (dir : List ℕ) (spec : Spec) (tasks : List Task) (o : Option Task)
+    → (ended_by spec.encoding o (effects_of dir spec (possible_front spec.encoding tasks))).effects ≡ effects_of dir spec (possible_front spec.encoding tasks)
+effects-are dir spec tasks None = refl
+effects-are dir spec tasks (Some task) = refl
+
 stopped-within : (dir : List ℕ) (spec : Spec) (world : World) (tasks : List Task) (files : Option Files) → EndsStopped dir spec world tasks files
     → StandsWithin (outcome_of_tasks dir spec tasks).effects world files
 stopped-within dir spec world tasks files h =
@@ -166,14 +171,8 @@ stopped-within dir spec world tasks files h =
     size = length-map h.front _
 
     effects : (outcome_of_tasks dir spec tasks).effects ≡ effects_of dir spec h.front ++ effects_of dir spec (possible_front spec.encoding h.rest)
-    effects = effects-are (first_refused spec.encoding tasks) ∙ ap (λ (ts : List Task). effects_of dir spec (possible_front spec.encoding ts)) h.cut
+    effects = effects-are dir spec tasks (first_refused spec.encoding tasks) ∙ ap (λ (ts : List Task). effects_of dir spec (possible_front spec.encoding ts)) h.cut
         ∙ ap (effects_of dir spec) (front-append spec.encoding h.front h.rest h.built.possible) ∙ map-append _ h.front (possible_front spec.encoding h.rest)
-      where
-        effects-are : (o : Option Task)
-            → (ended_by spec.encoding o (effects_of dir spec (possible_front spec.encoding tasks))).effects
-            ≡ effects_of dir spec (possible_front spec.encoding tasks)
-        effects-are None = refl
-        effects-are (Some task) = refl
 
     seam : take (length h.front) (effects_of dir spec h.front ++ effects_of dir spec (possible_front spec.encoding h.rest)) ≡ effects_of dir spec h.front
     seam = ap (λ (n : ℕ). take n (effects_of dir spec h.front ++ effects_of dir spec (possible_front spec.encoding h.rest))) (sym size)

@@ -121,7 +121,7 @@ module _ (old new : Option Files) (world : World) (dir : List ℕ) (content : Co
 
   bins-are : task.bins ≡ bin_count spec mask numbers
   bins-are =
-      ap (λ (o : Option Column). option_map_or (λ (c : Column). length (column_bins spec c.ty (column_cells col p.records))) 0 o) in_schema
+      ap (λ (o : Option Column). option_map_or (λ (c : Column). length (column_bins spec c.ty (column_cells col p.records))) o 0) in_schema
 
   -- what holds of the rows that the files have, where they are told
   on-rows : (Q : List Bool → List ℤ → Type 0)

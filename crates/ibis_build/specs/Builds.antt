@@ -52,7 +52,7 @@ pub record Task : Type 0 where
 -- how many bins the column at a place has in a part
 abbrev pub bins_in : Spec → List Column → Partition → ℕ → ℕ
 bins_in spec schema part col =
-    option_map_or (λ column. length (column_bins spec column.ty (column_cells col part.records))) 0 (slice_get schema col)
+    option_map_or (λ column. length (column_bins spec column.ty (column_cells col part.records))) (slice_get schema col) 0
 
 abbrev pub task_in : Spec → List Column → Partition → ℕ → Task
 task_in spec schema part col = record { number = part.number; col = col; bins = bins_in spec schema part col }

@@ -17,8 +17,9 @@ use Rattle.statuses.specs.Outcome.{◌>>=◌}
 abbrev pub can_have_index : Column → Bool
 can_have_index column = is_some (width_of column.ty)
 
+-- there is such a column at that place
 abbrev pub can_have_index_at : List Column → ℕ → Bool
-can_have_index_at schema col = option_map_or can_have_index false (slice_get schema col)
+can_have_index_at schema col = option_map_or can_have_index (slice_get schema col) false
 
 -- ---- without a list: all that can, in the schema's order
 

@@ -1,6 +1,6 @@
 //! Which columns get an index.
 
-ghost use Rattle.std.specs.Prelude.{◌≡◌, ◌∷◌, ◌++◌, [], Ok, IfErr, IfOk, List, OnOk, map};
+ghost use Rattle.std.specs.Prelude.{◌≡◌, ◌==◌, ◌∷◌, ◌++◌, [], Ok, IfErr, IfOk, List, OnOk, map};
 ghost use Rattle.std.specs.List.{list_any};
 ghost use Rattle.fb_types.specs.SchemaText.{items_of};
 ghost use Rattle.ibis_build.specs.Causes.{RefusesBy};

@@ -55,7 +55,7 @@ pub behind-front : {A : Type 0} (dir : List ℕ) (spec : Spec) (world : World) (
     → content_at world dir ≡ Some content → slice_get content.parts place ≡ Some p → content.schema ≡ schema → part ≡ part_data content.schema p
     → StandsWith dir spec world front mid → Step A dir spec schema part cols mid r new
     → LeavesTasks dir spec (after world (effects_of dir spec front)) (part_tasks spec content.schema cols p) r new
-behind-front {A} dir spec world content place p schema part cols front mid new r there listed same is before step =
+behind-front {A = A} dir spec world content place p schema part cols front mid new r there listed same is before step =
     let kept = content-after dir spec world front content there in
     let at = kept.same.parts place p listed in
     let now : Partition = record p { specs = at.0 } in
@@ -67,7 +67,7 @@ behind-front {A} dir spec world content place p schema part cols front mid new r
 -- ---- one more of a list
 
 pub split-at : {X : Type 0} (xs : List X) (k : ℕ) (x : X) → slice_get xs k ≡ Some x → xs ≡ take k xs ++ x ∷ drop (k + 1) xs
-split-at {X} xs k x e =
+split-at {X = X} xs k x e =
     sym (take-append-drop k xs)
     ∙ ap (λ (ys : List X). take k xs ++ ys)
     (drop_more xs k x (slice_get_within xs k x e) ∙ ap (λ y. y ∷ drop (k + 1) xs) (get_or_from_slice_get xs k x x e))
@@ -95,16 +95,16 @@ module _ (dir : List ℕ) (spec : Spec) (world : World) (content : Content) (pla
       (with-more dir spec world (tasks (take k cols)) (tasks (col ∷ [])) mid new before both)
 
   pub column-stops : (r : Result (Unit {0}) Unanswered) (stop : Unanswered) → r ≡ Err stop → Step (Unit {0}) dir spec schema part (col ∷ []) mid r new
-      → LeavesTasks {Unit {0}} dir spec world (tasks cols) (Err stop) new
+      → LeavesTasks {A = Unit {0}} dir spec world (tasks cols) (Err stop) new
   column-stops r stop err step =
       let one = behind-front dir spec world content place p schema part (col ∷ []) (tasks (take k cols)) mid new r there listed same is before step in
-      let last : LeavesTasks {Unit {0}} dir spec (after world (effects_of dir spec (tasks (take k cols)))) (tasks (col ∷ [])) (Err stop) new =
+      let last : LeavesTasks {A = Unit {0}} dir spec (after world (effects_of dir spec (tasks (take k cols)))) (tasks (col ∷ [])) (Err stop) new =
       subst (λ (x : Result (Unit {0}) Unanswered). LeavesTasks dir spec (after world (effects_of dir spec (tasks (take k cols)))) (tasks (col ∷ [])) x new) err one in
       let cut : tasks cols ≡ tasks (take k cols) ++ tasks (col ∷ []) ++ tasks (drop (k + 1) cols) =
       ap tasks (split-at cols k col at) ∙ map-append _ (take k cols) (col ∷ drop (k + 1) cols)
       ∙ sym (append_assoc (tasks (take k cols)) (tasks (col ∷ [])) (tasks (drop (k + 1) cols))) in
-      subst (λ (ts : List Task). LeavesTasks {Unit {0}} dir spec world ts (Err stop) new) (sym cut)
-      (leaves-more {Unit {0}} {Unit {0}} dir spec world (tasks (take k cols)) (tasks (col ∷ [])) (tasks (drop (k + 1) cols)) mid new stop before last)
+      subst (λ (ts : List Task). LeavesTasks {A = Unit {0}} dir spec world ts (Err stop) new) (sym cut)
+      (leaves-more {A = Unit {0}} {B = Unit {0}} dir spec world (tasks (take k cols)) (tasks (col ∷ [])) (tasks (drop (k + 1) cols)) mid new stop before last)
 
 module _ (dir : List ℕ) (spec : Spec) (world : World) (content : Content) (p : Partition) (schema : List Column) (part : PartMeta)
     (cols : List ℕ) (k : ℕ) (mid new : Option Files) (there : content_at world dir ≡ Some content)
@@ -128,16 +128,16 @@ module _ (dir : List ℕ) (spec : Spec) (world : World) (content : Content) (p :
       (with-more dir spec world (all (take k content.parts)) here mid new before both)
 
   pub part-stops : (r : Result (Unit {0}) Unanswered) (stop : Unanswered) → r ≡ Err stop → Step (Unit {0}) dir spec schema part cols mid r new
-      → LeavesTasks {Unit {0}} dir spec world (all content.parts) (Err stop) new
+      → LeavesTasks {A = Unit {0}} dir spec world (all content.parts) (Err stop) new
   part-stops r stop err step =
       let one = behind-front dir spec world content k p schema part cols (all (take k content.parts)) mid new r there listed same is before step in
-      let last : LeavesTasks {Unit {0}} dir spec (after world (effects_of dir spec (all (take k content.parts)))) here (Err stop) new =
+      let last : LeavesTasks {A = Unit {0}} dir spec (after world (effects_of dir spec (all (take k content.parts)))) here (Err stop) new =
       subst (λ (x : Result (Unit {0}) Unanswered). LeavesTasks dir spec (after world (effects_of dir spec (all (take k content.parts)))) here x new) err one in
       let cut : all content.parts ≡ all (take k content.parts) ++ here ++ all (drop (k + 1) content.parts) =
       ap all (split-at content.parts k p listed) ∙ flat_map-append _ (take k content.parts) (p ∷ drop (k + 1) content.parts)
       ∙ sym (append_assoc (all (take k content.parts)) here (all (drop (k + 1) content.parts))) in
-      subst (λ (ts : List Task). LeavesTasks {Unit {0}} dir spec world ts (Err stop) new) (sym cut)
-      (leaves-more {Unit {0}} {Unit {0}} dir spec world (all (take k content.parts)) here (all (drop (k + 1) content.parts)) mid new stop before last)
+      subst (λ (ts : List Task). LeavesTasks {A = Unit {0}} dir spec world ts (Err stop) new) (sym cut)
+      (leaves-more {A = Unit {0}} {B = Unit {0}} dir spec world (all (take k content.parts)) here (all (drop (k + 1) content.parts)) mid new stop before last)
 
 -- ---- what is asked
 
@@ -386,7 +386,7 @@ module _ (dir text : List ℕ) (list : Option (List ℕ)) (old : Option Files) (
 
     pub build-done : {A : Type 0} (r : Result A Unanswered) (done : A) (count : ℕ) → r ≡ Ok done → count ≡ length dataset.parts * length cols → Whole A r
         → LeavesBuilt (build_outcome dir text list world) world (Ok count) new
-    build-done {A} r done count ok e step =
+    build-done {A = A} r done count ok e step =
         let parts : length dataset.parts ≡ length found.content.parts = ap (λ (d : Dataset). length d.parts) found.is ∙ length-map found.content.parts _ in
         let size : count ≡ length tasks =
         e ∙ ap (λ (n : ℕ). n * length cols) parts ∙ sym (tasks-count spec found.content.schema cols found.content.parts) in
@@ -396,9 +396,9 @@ module _ (dir text : List ℕ) (list : Option (List ℕ)) (old : Option Files) (
 
     pub build-cut : {A : Type 0} (r : Result A Unanswered) (stop : Unanswered) → r ≡ Err stop → Whole A r
         → LeavesBuilt (build_outcome dir text list world) world (Err stop) new
-    build-cut {A} r stop err step =
+    build-cut {A = A} r stop err step =
         subst (λ (o : Outcome). LeavesBuilt o world (Err stop) new) (sym outcome)
-        (built-stopped {A} dir spec world tasks stop new
+        (built-stopped {A = A} dir spec world tasks stop new
         (subst (λ (x : Result A Unanswered). LeavesTasks dir spec world tasks x new) err (left r step)))
 
 -- ---- the parts of a dataset

@@ -90,23 +90,30 @@ behind-end schema before = refl
 ok_same : (r : Result (List ℕ) Status) (a b : List ℕ) → r ≡ Ok a → r ≡ Ok b → a ≡ b
 ok_same r a b e h = cc
 
+behind-by : (schema : List Column) (before : List ℕ) (piece : List ℕ) (pieces : List (List ℕ)) (cols : List ℕ) (r : Result ℕ Status)
+    → column_or_refusal schema before (place_in schema piece) ≡ r → columns_behind schema before (piece ∷ pieces) ≡ Ok cols
+    → ((col : ℕ) → columns_behind schema (before ++ col ∷ []) pieces ≡ Ok cols → Behind schema (before ++ col ∷ []) pieces cols)
+    → Behind schema before (piece ∷ pieces) cols
+unfolding AreTaken
+behind-by schema before piece pieces cols (Ok col) h e rest =
+    let more = rest col (sym (behind-step schema before piece pieces col h) ∙ e) in
+    record {
+      rest = col ∷ more.rest;
+      are = more.are ∙ append_assoc before (col ∷ []) more.rest;
+      each = (taken schema before (place_in schema piece) col h, more.each);
+    }
+behind-by schema before piece pieces cols (Err status) h e rest =
+    let bad : Err status ≡ Ok cols = sym (behind-stop schema before piece pieces status h) ∙ e in absurd (cc)
+
 behind : (schema : List Column) (before : List ℕ) (pieces : List (List ℕ)) (cols : List ℕ) → columns_behind schema before pieces ≡ Ok cols
     → Behind schema before pieces cols
 unfolding AreTaken
 behind schema before [] cols e =
     let same : before ≡ cols = ok_same (columns_behind schema before []) before cols (behind-end schema before) e in
     record { rest = []; are = sym same ∙ sym (append-nil before); each = tt }
-behind schema before (piece ∷ pieces) cols e = by (column_or_refusal schema before (place_in schema piece)) refl
-  where
-    by : (r : Result ℕ Status) → column_or_refusal schema before (place_in schema piece) ≡ r → Behind schema before (piece ∷ pieces) cols
-    by (Ok col) h =
-        let more = behind schema (before ++ col ∷ []) pieces cols (sym (behind-step schema before piece pieces col h) ∙ e) in
-        record {
-          rest = col ∷ more.rest;
-          are = more.are ∙ append_assoc before (col ∷ []) more.rest;
-          each = (taken schema before (place_in schema piece) col h, more.each);
-        }
-    by (Err status) h = let bad : Err status ≡ Ok cols = sym (behind-stop schema before piece pieces status h) ∙ e in absurd (cc)
+behind schema before (piece ∷ pieces) cols e =
+    behind-by schema before piece pieces cols (column_or_refusal schema before (place_in schema piece)) refl e
+    (λ col h. behind schema (before ++ col ∷ []) pieces cols h)
 
 ahead : (schema : List Column) (before : List ℕ) (pieces : List (List ℕ)) (rest : List ℕ) → AreTaken schema before pieces rest
     → columns_behind schema before pieces ≡ Ok (before ++ rest)
@@ -136,29 +143,34 @@ at-end (first ∷ front) column columns = at-end front column columns
 abbrev places : List (ℕ × Column) → List ℕ
 places cs = map (λ c. c.0) (filter (λ c. can_have_index c.1) cs)
 
+every-by : (schema : List Column) (column : Column) (columns : List Column) (n : ℕ) (b : Bool) → can_have_index column ≡ b
+    → slice_get schema n ≡ Some column → All (λ col. can_have_index_at schema col ≡ true) (places (enumerate_from (n + 1) columns))
+    → All (λ col. can_have_index_at schema col ≡ true) (places (enumerate_from n (column ∷ columns)))
+every-by schema column columns n true can here more =
+    let split : places (enumerate_from n (column ∷ columns)) ≡ n ∷ places (enumerate_from (n + 1) columns) =
+    ap (λ (b : Bool). map (λ (c : ℕ × Column). c.0) (cond b ((n, column) ∷ filter (λ (c : ℕ × Column). can_have_index c.1) (enumerate_from (n + 1) columns)) (filter (λ (c : ℕ × Column). can_have_index c.1) (enumerate_from (n + 1) columns)))) can in
+    subst (All (λ (col : ℕ). can_have_index_at schema col ≡ true)) (sym split)
+    (All-cons (λ (col : ℕ). can_have_index_at schema col ≡ true) n (places (enumerate_from (n + 1) columns))
+    (ap (λ (o : Option Column). option_map_or can_have_index o false) here ∙ can) more)
+every-by schema column columns n false can here more =
+    let split : places (enumerate_from n (column ∷ columns)) ≡ places (enumerate_from (n + 1) columns) =
+    ap (λ (b : Bool). map (λ (c : ℕ × Column). c.0) (cond b ((n, column) ∷ filter (λ (c : ℕ × Column). can_have_index c.1) (enumerate_from (n + 1) columns)) (filter (λ (c : ℕ × Column). can_have_index c.1) (enumerate_from (n + 1) columns)))) can in
+    subst (All (λ (col : ℕ). can_have_index_at schema col ≡ true)) (sym split) more
+
+at-next : (schema front : List Column) (column : Column) (columns : List Column) (n : ℕ) → schema ≡ front ++ column ∷ columns → n ≡ length front
+    → slice_get schema n ≡ Some column
+at-next schema front column columns n e size =
+    ap (λ (k : ℕ). slice_get schema k) size ∙ ap (λ (s : List Column). slice_get s (length front)) e ∙ at-end front column columns
+
+one-more : (front : List Column) (column : Column) (n : ℕ) → n ≡ length front → n + 1 ≡ length (front ++ column ∷ [])
+one-more front column n size = let both = length-append front (column ∷ []) in omega (arith, size, both)
+
 every-can : (schema front columns : List Column) (n : ℕ) → schema ≡ front ++ columns → n ≡ length front
     → All (λ col. can_have_index_at schema col ≡ true) (places (enumerate_from n columns))
-every-can schema front [] n e size = All-nil (λ col. can_have_index_at schema col ≡ true)
-every-can schema front (column ∷ columns) n e size = by (can_have_index column) refl
-  where
-    here : slice_get schema n ≡ Some column
-    here = ap (λ (k : ℕ). slice_get schema k) size ∙ ap (λ (s : List Column). slice_get s (length front)) e ∙ at-end front column columns
-
-    more : All (λ col. can_have_index_at schema col ≡ true) (places (enumerate_from (n + 1) columns))
-    more =
-        every-can schema (front ++ column ∷ []) columns (n + 1) (e ∙ sym (append_assoc front (column ∷ []) columns))
-        (let size' = length-append front (column ∷ []) in omega (arith, size, size'))
-
-    by : (b : Bool) → can_have_index column ≡ b → All (λ col. can_have_index_at schema col ≡ true) (places (enumerate_from n (column ∷ columns)))
-    by true can =
-        let split : places (enumerate_from n (column ∷ columns)) ≡ n ∷ places (enumerate_from (n + 1) columns) =
-        ap (λ (b : Bool). map (λ c. c.0) (cond b ((n, column) ∷ filter (λ c. can_have_index c.1) (enumerate_from (n + 1) columns)) (filter (λ c. can_have_index c.1) (enumerate_from (n + 1) columns)))) can in
-        subst (All (λ (col : ℕ). can_have_index_at schema col ≡ true)) (sym split)
-        (All-cons (λ (col : ℕ). can_have_index_at schema col ≡ true) n (places (enumerate_from (n + 1) columns)) (ap (λ (o : Option Column). option_map_or can_have_index o false) here ∙ can) more)
-    by false can =
-        let split : places (enumerate_from n (column ∷ columns)) ≡ places (enumerate_from (n + 1) columns) =
-        ap (λ (b : Bool). map (λ c. c.0) (cond b ((n, column) ∷ filter (λ c. can_have_index c.1) (enumerate_from (n + 1) columns)) (filter (λ c. can_have_index c.1) (enumerate_from (n + 1) columns)))) can in
-        subst (All (λ (col : ℕ). can_have_index_at schema col ≡ true)) (sym split) more
+every-can schema front [] n e size = All-nil (λ (col : ℕ). can_have_index_at schema col ≡ true)
+every-can schema front (column ∷ columns) n e size =
+    every-by schema column columns n (can_have_index column) refl (at-next schema front column columns n e size)
+    (every-can schema (front ++ column ∷ []) columns (n + 1) (e ∙ sym (append_assoc front (column ∷ []) columns)) (one-more front column n size))
 
 pub chosen-can : (schema : List Column) (list : Option (List ℕ)) (cols : List ℕ) → chosen_columns schema list ≡ Ok cols
     → All (λ col. can_have_index_at schema col ≡ true) cols
@@ -228,15 +240,19 @@ names-each schema before (piece ∷ pieces) (col ∷ cols) h =
     (names-column schema before piece col h.0, names-each schema (before ++ col ∷ []) pieces cols h.1)
 
 -- none that stands before
+not-by : (first : ℕ) (before : List ℕ) (col : ℕ) (b : Bool) (k d : ℕ) → (first == col) ≡ b → list_any (λ other. other == col) (first ∷ before) ≡ false
+    → k < length (first ∷ before)
+    → ((i : ℕ) → list_any (λ other. other == col) before ≡ false → i < length before → get_or before i d ≢ col) → get_or (first ∷ before) k d ≢ col
+not-by first before col true k d e free within rest =
+    let bad : true ≡ false = sym (ap (λ (t : Bool). t || list_any (λ other. other == col) before) e) ∙ free in absurd (cc)
+not-by first before col false zero d e free within rest = λ same. let t : (first == col) ≡ true = (Decides-eqb first col).1 same in cc
+not-by first before col false (suc k) d e free within rest =
+    rest k (sym (ap (λ (t : Bool). t || list_any (λ other. other == col) before) e) ∙ free) (omega (arith, within))
+
 not-among : (before : List ℕ) (col k d : ℕ) → list_any (λ other. other == col) before ≡ false → k < length before → get_or before k d ≢ col
 not-among [] col k d free within = absurd (omega arith)
-not-among (first ∷ before) col k d free within = by (first == col) refl k within free
-  where
-    by : (b : Bool) → (first == col) ≡ b → (k : ℕ) → k < length (first ∷ before) → list_any (λ other. other == col) (first ∷ before) ≡ false → get_or (first ∷ before) k d ≢ col
-    by true e k within free = let bad : true ≡ false = sym (ap (λ (t : Bool). t || list_any (λ other. other == col) before) e) ∙ free in absurd (cc)
-    by false e zero within free = λ same. let t : (first == col) ≡ true = (Decides-eqb first col).1 same in cc
-    by false e (suc k) within free =
-        not-among before col k d (sym (ap (λ (t : Bool). t || list_any (λ other. other == col) before) e) ∙ free) (omega arith)
+not-among (first ∷ before) col k d free within =
+    not-by first before col (first == col) k d refl free within (λ i later less. not-among before col i d later less)
 
 distinct-more : (schema : List Column) (before : List ℕ) (pieces : List (List ℕ)) (rest : List ℕ) → AreTaken schema before pieces rest
     → AllPairs (λ a b. a ≢ b) before → AllPairs (λ a b. a ≢ b) (before ++ rest)
@@ -287,6 +303,10 @@ asked-name schema (Some list) cols column valid e among =
 
 -- ---- a list that names columns is taken
 
+lt-test : (i n : ℕ) (b : Bool) → nat_lt i n ≡ b → i < n → b ≡ true
+lt-test i n true e h = refl
+lt-test i n false e h = let past : n ≤ i = grind (arith, nat_tests) in absurd (omega (arith, past, h))
+
 first-place : (schema : List Column) (col : ℕ) (column : Column) → IsSchema schema → slice_get schema col ≡ Some column → place_of schema column.name ≡ Some col
 first-place schema col column valid there =
     ap (λ (n : ℕ). cond (nat_lt n (length schema)) (Some n) None) at ∙ ap (λ (b : Bool). cond b (Some col) None) within
@@ -312,7 +332,7 @@ first-place schema col column valid there =
         (λ _. ap (λ (c : Column). bytes_eq c.name column.name) is ∙ (bytes_eq-Decides column.name column.name).1 refl)
 
     within : nat_lt col (length schema) ≡ true
-    within = grind (arith, nat_tests)
+    within = lt-test col (length schema) (nat_lt col (length schema)) refl inside
 
 column-taken : (schema : List Column) (before : List ℕ) (piece : List ℕ) (col : ℕ) → IsSchema schema → NamesColumn schema piece col
     → list_any (λ other. other == col) before ≡ false → IsTaken schema before (place_in schema piece) col
@@ -323,13 +343,15 @@ column-taken schema before piece col valid n free =
       free = free;
     }
 
+free-by : (first : ℕ) (before : List ℕ) (col : ℕ) (b : Bool) → (first == col) ≡ b → (first ≡ col → ⊥)
+    → list_any (λ other. other == col) before ≡ false → list_any (λ other. other == col) (first ∷ before) ≡ false
+free-by first before col true e apart rest = absurd (apart ((Decides-eqb first col).0 e))
+free-by first before col false e apart rest = ap (λ (t : Bool). t || list_any (λ other. other == col) before) e ∙ rest
+
 free-of : (before : List ℕ) (col : ℕ) → ((k d : ℕ) → k < length before → get_or before k d ≢ col) → list_any (λ other. other == col) before ≡ false
 free-of [] col h = refl
-free-of (first ∷ before) col h = by (first == col) refl
-  where
-    by : (b : Bool) → (first == col) ≡ b → list_any (λ other. other == col) (first ∷ before) ≡ false
-    by true e = absurd (h 0 0 (omega arith) ((Decides-eqb first col).0 e))
-    by false e = ap (λ (t : Bool). t || list_any (λ other. other == col) before) e ∙ free-of before col (λ k d within. h (suc k) d (omega arith))
+free-of (first ∷ before) col h =
+    free-by first before col (first == col) refl (h 0 0 (omega arith)) (free-of before col (λ k d within. h (suc k) d (omega (arith, within))))
 
 get_or-left : (xs ys : List ℕ) (k d : ℕ) → k < length xs → get_or (xs ++ ys) k d ≡ get_or xs k d
 get_or-left [] ys k d within = absurd (omega arith)

@@ -1,5 +1,5 @@
 -- The indexes of columns that were built are there, and stay when others are built.
-use Rattle.std.proofs.Common.{◌≡◌, ◌≢◌, ◌⊎◌, inl, inr, ◌+◌, ◌<◌, nat_lt, ℕ, ℤ, zero, suc, Bool, true, false, List, [], ◌∷◌, ◌++◌, length, map, take, Option, Some, None, option_map, is_some, refl, sym, ap, subst, ◌∙◌, arith}
+use Rattle.std.proofs.Common.{◌≡◌, ◌≢◌, ◌⊎◌, inl, inr, ◌+◌, ◌<◌, nat_lt, ℕ, ℤ, zero, suc, Bool, true, false, List, [], ◌∷◌, ◌++◌, length, map, take, Option, Some, None, IfSome, option_map, is_some, refl, sym, ap, subst, ◌∙◌, arith}
 use Rattle.std.specs.FinMap.{insert}
 use Rattle.std.specs.List.{AllPairs, slice_get}
 use Rattle.std.specs.Prelude.{Result, Ok, Err}
@@ -18,9 +18,14 @@ use Rattle.world.proofs.MapLemmas.{same_or_apart}
 use Rattle.world.proofs.PlaceLemmas.{AllPairs-at, same_place}
 use Rattle.dataset.specs.Opened.{IsDataset}
 use Rattle.dataset.specs.declared.content.Dataset.{Dataset}
-use Rattle.index_build.specs.Build.{HasRows}
+use Rattle.index_build.specs.Build.{AnswersOver, HasRows, LeavesIndex, StopsIn as BuildStops, bin_count}
+use Rattle.index_build.specs.declared.fault.BuildFault.{BuildFault}
+use Rattle.index_build.specs.declared.fault.BuildFault.TheVariants as build
+use Rattle.index_build.specs.declared.writing.Built.{Built}
+use Rattle.statuses.specs.declared.LimitKind.TheVariants.{Bins}
+use Rattle.statuses.specs.declared.Status.TheVariants.{Limit}
 use Rattle.index_spec.specs.declared.spec.Spec.{Spec}
-use Rattle.ibis_build.specs.Causes.{HasPartIndexes, IsAmong, IsIndexName, IsPartIndex}
+use Rattle.ibis_build.specs.Causes.{Damages, HasPartIndexes, HasTooMany, IsAmong, IsIndexName, IsPartIndex, Passes, StopsIn, stop_of_build}
 use Rattle.ibis_build.proofs.BuildLemmas.{take-at}
 use Rattle.ibis_build.proofs.FileLemmas.{column-called, name-listed, part-low, rows-stay}
 
@@ -182,3 +187,40 @@ module _ (dataset : Dataset) (valid : IsDataset dataset) (spec : Spec) (cols : L
           let both : Some part ≡ Some p = sym listed ∙ ap (slice_get dataset.parts) (sym same) ∙ at in
           let is : part ≡ p = cc in
           subst (λ (q : PartMeta). HasPartIndexes old dataset q (record { spec = spec; cols = cols }) new) is here
+
+-- ---- one build
+
+module _ (dataset : Dataset) (at : ℕ) (part : PartMeta) (listed : slice_get dataset.parts at ≡ Some part) (col : ℕ) (column : Column)
+    (there : slice_get dataset.schema col ≡ Some column) (old : Option Files) where
+  pub among-it : IsAmong dataset.schema (col ∷ []) column
+  among-it = record { place = 0; col = col; asked = refl; in_schema = there }
+
+  pub put-one : (spec : Spec) (made : Built) (new : Option Files)
+      → ((m : Files) (mask : List Bool) (numbers : List ℤ) → old ≡ Some m → HasRows m dataset.dir part column mask numbers
+      → LeavesIndex spec.encoding (bin_count spec mask numbers) (index_name dataset.dir part.number column.name) (index_of spec mask numbers) (Ok made) old new)
+      → HasPartIndexes old dataset part (record { spec = spec; cols = col ∷ [] }) new
+  put-one spec made new leaves m other mask numbers told among has =
+      let place : col ≡ among.col = single col among.place among.col among.asked in
+      let both : Some column ≡ Some other = sym there ∙ ap (slice_get dataset.schema) place ∙ among.in_schema in
+      let is : other ≡ column = cc in
+      let rows : HasRows m dataset.dir part column mask numbers = subst (λ (c : Column). HasRows m dataset.dir part c mask numbers) is has in
+      ap (λ (c : Column). told_at new (index_name dataset.dir part.number c.name)) is
+      ∙ put-there old new m (index_name dataset.dir part.number column.name) (index_of spec mask numbers) told (leaves m mask numbers told rows).0
+
+  too-many : (spec : Spec) (bins limit : ℕ) (o : Option Files)
+      → ((m : Files) (mask : List Bool) (numbers : List ℤ) → o ≡ Some m → HasRows m dataset.dir part column mask numbers
+      → AnswersOver spec.encoding (bin_count spec mask numbers) (Err (build.TooManyBins bins limit)))
+      → IfSome o (λ m. HasTooMany m dataset part column spec bins)
+  too-many spec bins limit None f = tt
+  too-many spec bins limit (Some m) f = λ mask numbers has. let a = f m mask numbers refl has in (a.0, a.1)
+
+  pub stop-built : (spec : Spec) (fault : BuildFault) → BuildStops old dataset column.name fault
+      → ((m : Files) (mask : List Bool) (numbers : List ℤ) → old ≡ Some m → HasRows m dataset.dir part column mask numbers
+      → AnswersOver spec.encoding (bin_count spec mask numbers) (Err fault))
+      → StopsIn old dataset (record { spec = spec; cols = col ∷ [] }) (stop_of_build fault)
+  stop-built spec (build.Damaged file kind want have) h f =
+      Damages column (record { file = file; kind = kind; want = want; have = have }) among-it h refl
+  stop-built spec (build.TooManyBins bins limit) h f =
+      Passes at part column bins listed among-it (too-many spec bins limit old f) (ap (λ (n : ℕ). Limit Bins bins n) h.0)
+  stop-built spec build.Store h f = tt
+  stop-built spec build.OutOfMemory h f = tt

@@ -101,8 +101,8 @@ with-more dir spec world front more mid files h k =
 -- what a step leaves, behind those before it and with others to come
 pub leaves-more : {A B : Type 0} (dir : List ℕ) (spec : Spec) (world : World) (front more rest : List Task) (mid files : Option Files) (stop : Unanswered)
     → StandsWith dir spec world front mid
-    → LeavesTasks {A} dir spec (after world (effects_of dir spec front)) more (Err stop) files
-    → LeavesTasks {B} dir spec world (front ++ more ++ rest) (Err stop) files
+    → LeavesTasks {A = A} dir spec (after world (effects_of dir spec front)) more (Err stop) files
+    → LeavesTasks {A = B} dir spec world (front ++ more ++ rest) (Err stop) files
 leaves-more dir spec world front more rest mid files (Refused status) h k =
     record {
       front = front ++ k.front;
@@ -185,7 +185,7 @@ built-done dir spec world tasks done count files h e =
     subst (λ (o : Outcome). LeavesBuilt o world (Ok count) files) (sym is) (refl, e ∙ sym (length-map tasks _), h.stands)
 
 pub built-stopped : {A : Type 0} (dir : List ℕ) (spec : Spec) (world : World) (tasks : List Task) (stop : Unanswered) (files : Option Files)
-    → LeavesTasks {A} dir spec world tasks (Err stop) files → LeavesBuilt (outcome_of_tasks dir spec tasks) world (Err stop) files
+    → LeavesTasks {A = A} dir spec world tasks (Err stop) files → LeavesBuilt (outcome_of_tasks dir spec tasks) world (Err stop) files
 built-stopped dir spec world tasks (Refused status) files h =
     let is : outcome_of_tasks dir spec tasks
     ≡ record { status = bins_status spec.encoding h.task; text = line_of (bins_status spec.encoding h.task); effects = effects_of dir spec h.front } =

@@ -1,14 +1,28 @@
 -- The columns that are indexed: each can have an index and is one that is asked for, and a list is taken where it names such columns.
+<<<<<<< HEAD
 use Rattle.std.proofs.Common.{◌≡◌, ◌≢◌, ◌+◌, ◌<◌, ◌≤◌, ◌==◌, ◌||◌, nat_lt, ℕ, zero, suc, Bool, true, false, cond, not, if◌then◌else◌, List, [], ◌∷◌, ◌++◌, length, map, get_or, Option, Some, None, option_map, IsSome, is_some, refl, sym, ap, subst, ◌∙◌, arith, append_assoc, append-nil}
 use Rattle.std.specs.List.{All, AllPairs, AllZip, enumerate_from, filter, list_any, position_or_len, slice_get}
+=======
+use Rattle.std.proofs.Common.{◌≡◌, ◌≢◌, ◌+◌, ◌<◌, ◌≤◌, ◌==◌, ◌||◌, nat_lt, ℕ, zero, suc, Bool, true, false, cond, eqb, not, if◌then◌else◌, List, [], ◌∷◌, ◌++◌, length, map, get_or, Option, Some, None, option_map, IsSome, is_some, refl, sym, ap, subst, ◌∙◌, arith, append_assoc, append-nil}
+use Rattle.std.specs.List.{All, AllByRecursion, AllPairs, AllZip, IsDistinct, enumerate_from, filter, list_any, position_or_len, slice_get}
+>>>>>>> 211ca151a56768beb43328aea0a1445f1e34b58a
 use Rattle.std.specs.Option.{option_and_then, option_map_or}
 use Rattle.std.specs.Prelude.{Result, Ok, Err}
 use Rattle.std.specs.Str.{bytes_eq}
 use Rattle.std.proofs.lemmas.Bool.Decides.{Decides-eqb, nat_tests}
+<<<<<<< HEAD
 use Rattle.std.proofs.lemmas.List.{length-append}
 use Rattle.std.proofs.lemmas.List.Elements.{All-cons, All-nil, All-push}
 use Rattle.std.proofs.lemmas.List.Quantifiers.{all_pairs_push, position-Some}
 use Rattle.std.proofs.lemmas.List.Sums.{position_or_len_is}
+=======
+use Rattle.std.proofs.lemmas.List.{length-append, length-map}
+use Rattle.std.proofs.lemmas.List.Elements.{All-cons, All-nil, All-tail}
+use Rattle.std.proofs.lemmas.List.Quantifiers.{all_pairs_push, position-Some}
+use Rattle.std.proofs.lemmas.List.FromFn.{length-enumerate_from}
+use Rattle.std.proofs.lemmas.List.Sums.{count_by-le-length, length-filter, position_or_len_is}
+use Rattle.std.proofs.lemmas.Map.Steps.{length-le_from_distinct_below}
+>>>>>>> 211ca151a56768beb43328aea0a1445f1e34b58a
 use Rattle.std.proofs.lemmas.Option.{get_or_from_slice_get, slice_get-get_or, slice_get_within}
 use Rattle.std.proofs.lemmas.Slice.Eq.{bytes_eq-Decides}
 use Rattle.fb_types.specs.declared.schemas.Column.{Column}
@@ -379,3 +393,50 @@ all-taken schema before (piece ∷ pieces) (col ∷ cols) valid h apart =
 
 pub lists-listed : (schema : List Column) (list cols : List ℕ) → IsSchema schema → Lists schema list cols → listed_columns schema list ≡ Ok cols
 lists-listed schema list cols valid h = ahead schema [] (items_of list) cols (all-taken schema [] (items_of list) cols valid h.each h.distinct)
+<<<<<<< HEAD
+=======
+
+-- ---- there are at most as many as the schema has columns
+
+differ : (x y : ℕ) (b : Bool) → (x == y) ≡ b → x ≢ y → (x == y) ≡ false
+differ x y true e apart = absurd (apart ((Decides-eqb x y).0 e))
+differ x y false e apart = e
+
+below-by : (n x : ℕ) (xs : List ℕ) (q : ℕ) (b : Bool) → eqb q x ≡ b → list_any (eqb q) (x ∷ xs) ≡ true → x < n → (list_any (eqb q) xs ≡ true → q < n) → q < n
+below-by n x xs q true e any less rest = let same : q ≡ x = (Decides-eqb q x).0 e in omega (arith, same, less)
+below-by n x xs q false e any less rest = rest (sym (ap (λ (t : Bool). t || list_any (eqb q) xs) e) ∙ any)
+
+apart-all : (x : ℕ) (xs : List ℕ) → ((k d : ℕ) → k < length xs → x ≢ get_or xs k d) → AllByRecursion (λ y. (x == y) ≡ false) xs
+apart-all x [] h = tt
+apart-all x (y ∷ ys) h = (differ x y (x == y) refl (h 0 0 (omega arith)), apart-all x ys (λ k d within. h (suc k) d (omega (arith, within))))
+
+distinct-of : (xs : List ℕ) → AllPairs (λ a b. a ≢ b) xs → IsDistinct eqb xs
+unfolding IsDistinct
+distinct-of [] h = tt
+distinct-of (x ∷ xs) h =
+    (apart-all x xs (λ k d within. h 0 (suc k) d (omega arith) (omega (arith, within))),
+    distinct-of xs (λ i j d less within. h (suc i) (suc j) d (omega (arith, less)) (omega (arith, within))))
+
+below-all : (n : ℕ) (xs : List ℕ) → All (λ x. x < n) xs → (q : ℕ) → list_any (eqb q) xs ≡ true → q < n
+below-all n [] h q e = absurd (cc)
+below-all n (x ∷ xs) h q e = below-by n x xs q (eqb q x) refl e (h 0 x (omega arith)) (below-all n xs (All-tail (λ (y : ℕ). y < n) x xs h) q)
+
+can-below : (schema : List Column) (cols : List ℕ) → All (λ col. can_have_index_at schema col ≡ true) cols → All (λ col. col < length schema) cols
+can-below schema cols h k d within =
+    let has = can-column schema (get_or cols k d) (h k d within) in slice_get_within schema (get_or cols k d) has.column has.in_schema
+
+pub chosen-few : (schema : List Column) (list : Option (List ℕ)) (cols : List ℕ) → IsSchema schema → chosen_columns schema list ≡ Ok cols → length cols ≤ 255
+chosen-few schema None cols valid e =
+    let is = ok_same (chosen_columns schema None) (every_column schema) cols refl e in
+    let kept = filter (λ (c : ℕ × Column). can_have_index c.1) (enumerate_from 0 schema) in
+    let mapped : length (every_column schema) ≡ length kept = length-map kept (λ (c : ℕ × Column). c.0) in
+    let counted = length-filter (λ (c : ℕ × Column). can_have_index c.1) (enumerate_from 0 schema) in
+    let most = count_by-le-length (λ (c : ℕ × Column). can_have_index c.1) (enumerate_from 0 schema) in
+    let all = length-enumerate_from 0 schema in
+    omega (arith, ap length is, mapped, counted, most, all, valid.few)
+chosen-few schema (Some list) cols valid e =
+    let most =
+    length-le_from_distinct_below cols (length schema) (distinct-of cols (listed-lists schema list cols e).distinct)
+    (below-all (length schema) cols (can-below schema cols (chosen-can schema (Some list) cols e))) in
+    omega (arith, most, valid.few)
+>>>>>>> 211ca151a56768beb43328aea0a1445f1e34b58a

@@ -1,6 +1,10 @@
 //! Indexes of the columns of a dataset, built one after another.
 
+<<<<<<< HEAD
 ghost use Rattle.std.specs.Prelude.{◌≡◌, [], ◌∷◌, ℕ, Ok, Some, All, IfErr, IfOk, IsErrOf, IsUtf8, OnOk, is_ok, slice_get, true};
+=======
+ghost use Rattle.std.specs.Prelude.{◌≡◌, ◌*◌, ◌≤◌, [], ◌∷◌, ℕ, Ok, Some, All, IfErr, IfOk, IsErrOf, IsUtf8, OnOk, is_ok, length, slice_get, true};
+>>>>>>> 211ca151a56768beb43328aea0a1445f1e34b58a
 ghost use Rattle.fb_outside.specs.Causes.{HasCause};
 ghost use Rattle.fb_outside.specs.Files.{ChangesAmong};
 ghost use Rattle.fb_outside.specs.Names.{IsPath};
@@ -64,7 +68,21 @@ pub fn build_indexes<S: Store, L: Ledger>(
     let dataset = opened(alloc, store, dir)?;
     let cols = chosen_columns(alloc, &dataset.schema, list)?;
     build_parts(alloc, store, &dataset, &cols, &spec, steps)?;
+<<<<<<< HEAD
     Ok(dataset.parts.as_slice().len() as u64 * cols.len() as u64)
+=======
+    Ok(index_count(&dataset, &cols))
+}
+
+/// How many indexes these columns have in all parts of the dataset.
+fn index_count(dataset: &Dataset, cols: &[usize]) -> u64
+    requires valid { IsDataset dataset.now }
+    requires few { length cols.now ≤ 255 }
+    ensures { result ≡ length dataset.now.parts * length cols.now }
+{
+    let parts = dataset.parts.as_slice();
+    parts.len() as u64 * cols.len() as u64
+>>>>>>> 211ca151a56768beb43328aea0a1445f1e34b58a
 }
 
 /// The specification that the text spells.

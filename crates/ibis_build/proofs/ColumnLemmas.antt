@@ -1,28 +1,16 @@
 -- The columns that are indexed: each can have an index and is one that is asked for, and a list is taken where it names such columns.
-<<<<<<< HEAD
-use Rattle.std.proofs.Common.{◌≡◌, ◌≢◌, ◌+◌, ◌<◌, ◌≤◌, ◌==◌, ◌||◌, nat_lt, ℕ, zero, suc, Bool, true, false, cond, not, if◌then◌else◌, List, [], ◌∷◌, ◌++◌, length, map, get_or, Option, Some, None, option_map, IsSome, is_some, refl, sym, ap, subst, ◌∙◌, arith, append_assoc, append-nil}
-use Rattle.std.specs.List.{All, AllPairs, AllZip, enumerate_from, filter, list_any, position_or_len, slice_get}
-=======
 use Rattle.std.proofs.Common.{◌≡◌, ◌≢◌, ◌+◌, ◌<◌, ◌≤◌, ◌==◌, ◌||◌, nat_lt, ℕ, zero, suc, Bool, true, false, cond, eqb, not, if◌then◌else◌, List, [], ◌∷◌, ◌++◌, length, map, get_or, Option, Some, None, option_map, IsSome, is_some, refl, sym, ap, subst, ◌∙◌, arith, append_assoc, append-nil}
 use Rattle.std.specs.List.{All, AllByRecursion, AllPairs, AllZip, IsDistinct, enumerate_from, filter, list_any, position_or_len, slice_get}
->>>>>>> 211ca151a56768beb43328aea0a1445f1e34b58a
 use Rattle.std.specs.Option.{option_and_then, option_map_or}
 use Rattle.std.specs.Prelude.{Result, Ok, Err}
 use Rattle.std.specs.Str.{bytes_eq}
 use Rattle.std.proofs.lemmas.Bool.Decides.{Decides-eqb, nat_tests}
-<<<<<<< HEAD
-use Rattle.std.proofs.lemmas.List.{length-append}
-use Rattle.std.proofs.lemmas.List.Elements.{All-cons, All-nil, All-push}
-use Rattle.std.proofs.lemmas.List.Quantifiers.{all_pairs_push, position-Some}
-use Rattle.std.proofs.lemmas.List.Sums.{position_or_len_is}
-=======
 use Rattle.std.proofs.lemmas.List.{length-append, length-map}
 use Rattle.std.proofs.lemmas.List.Elements.{All-cons, All-nil, All-tail}
 use Rattle.std.proofs.lemmas.List.Quantifiers.{all_pairs_push, position-Some}
 use Rattle.std.proofs.lemmas.List.FromFn.{length-enumerate_from}
 use Rattle.std.proofs.lemmas.List.Sums.{count_by-le-length, length-filter, position_or_len_is}
 use Rattle.std.proofs.lemmas.Map.Steps.{length-le_from_distinct_below}
->>>>>>> 211ca151a56768beb43328aea0a1445f1e34b58a
 use Rattle.std.proofs.lemmas.Option.{get_or_from_slice_get, slice_get-get_or, slice_get_within}
 use Rattle.std.proofs.lemmas.Slice.Eq.{bytes_eq-Decides}
 use Rattle.fb_types.specs.declared.schemas.Column.{Column}
@@ -393,8 +381,6 @@ all-taken schema before (piece ∷ pieces) (col ∷ cols) valid h apart =
 
 pub lists-listed : (schema : List Column) (list cols : List ℕ) → IsSchema schema → Lists schema list cols → listed_columns schema list ≡ Ok cols
 lists-listed schema list cols valid h = ahead schema [] (items_of list) cols (all-taken schema [] (items_of list) cols valid h.each h.distinct)
-<<<<<<< HEAD
-=======
 
 -- ---- there are at most as many as the schema has columns
 
@@ -439,4 +425,3 @@ chosen-few schema (Some list) cols valid e =
     length-le_from_distinct_below cols (length schema) (distinct-of cols (listed-lists schema list cols e).distinct)
     (below-all (length schema) cols (can-below schema cols (chosen-can schema (Some list) cols e))) in
     omega (arith, most, valid.few)
->>>>>>> 211ca151a56768beb43328aea0a1445f1e34b58a

@@ -1,10 +1,6 @@
 //! Indexes of the columns of a dataset, built one after another.
 
-<<<<<<< HEAD
-ghost use Rattle.std.specs.Prelude.{◌≡◌, [], ◌∷◌, ℕ, Ok, Some, All, IfErr, IfOk, IsErrOf, IsUtf8, OnOk, is_ok, slice_get, true};
-=======
 ghost use Rattle.std.specs.Prelude.{◌≡◌, ◌*◌, ◌≤◌, [], ◌∷◌, ℕ, Ok, Some, All, IfErr, IfOk, IsErrOf, IsUtf8, OnOk, is_ok, length, slice_get, true};
->>>>>>> 211ca151a56768beb43328aea0a1445f1e34b58a
 ghost use Rattle.fb_outside.specs.Causes.{HasCause};
 ghost use Rattle.fb_outside.specs.Files.{ChangesAmong};
 ghost use Rattle.fb_outside.specs.Names.{IsPath};
@@ -68,9 +64,6 @@ pub fn build_indexes<S: Store, L: Ledger>(
     let dataset = opened(alloc, store, dir)?;
     let cols = chosen_columns(alloc, &dataset.schema, list)?;
     build_parts(alloc, store, &dataset, &cols, &spec, steps)?;
-<<<<<<< HEAD
-    Ok(dataset.parts.as_slice().len() as u64 * cols.len() as u64)
-=======
     Ok(index_count(&dataset, &cols))
 }
 
@@ -82,7 +75,6 @@ fn index_count(dataset: &Dataset, cols: &[usize]) -> u64
 {
     let parts = dataset.parts.as_slice();
     parts.len() as u64 * cols.len() as u64
->>>>>>> 211ca151a56768beb43328aea0a1445f1e34b58a
 }
 
 /// The specification that the text spells.

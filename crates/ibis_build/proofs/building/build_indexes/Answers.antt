@@ -2,11 +2,7 @@ use Rattle.std.proofs.Common.{inl, refl, length, ap, sym, ◌∙◌}
 use Rattle.fb_outside.proofs.ReadLemmas.{AddsOnly-weaken}
 use Rattle.dataset.specs.Opened.{IsTextLook}
 use Rattle.ibis_build.specs.Looks.{IsBuildLook}
-<<<<<<< HEAD
-use Rattle.ibis_build.proofs.ColumnLemmas.{chosen-can}
-=======
 use Rattle.ibis_build.proofs.ColumnLemmas.{chosen-can, chosen-few}
->>>>>>> 211ca151a56768beb43328aea0a1445f1e34b58a
 use Rattle.ibis_build.proofs.BuildLemmas.{build-cut, build-done, build-gives, build-keeps, build-looks, build-puts, build-stops, names-give, names-leave, opening-gives, opening-leaves, text-gives, text-leaves, text-looks}
 use Rattle.ibis_build.proofs.building.build_indexes.Goals as goal
 
@@ -53,13 +49,10 @@ returns-in_err-cols-clause-reads g c = text-looks c.args.dir.now c.args.list.now
 pub build_parts-requires-clause-cols : goal.build_parts-requires-clause-cols
 build_parts-requires-clause-cols g c = chosen-can c.in_ok-dataset.dataset.schema c.args.list.now c.in_ok-cols.cols.items c.in_ok-cols.ensures.ok
 
-<<<<<<< HEAD
-=======
 pub index_count-requires-clause-few : goal.index_count-requires-clause-few
 index_count-requires-clause-few g c =
     chosen-few c.in_ok-dataset.dataset.schema c.args.list.now c.in_ok-cols.cols.items c.in_ok-dataset.ensures.valid.catalog.schema c.in_ok-cols.ensures.ok
 
->>>>>>> 211ca151a56768beb43328aea0a1445f1e34b58a
 pub returns-in_err-build_parts-clause-gives : goal.returns-in_err-build_parts-clause-gives
 returns-in_err-build_parts-clause-gives g c =
     build-stops c.args.dir.now c.args.text.now c.args.list.now _ c.in_ok-spec.spec c.in_ok-spec.ensures.ok c.requires.path c.in_ok-dataset.dataset
@@ -87,11 +80,7 @@ returns-in_err-build_parts-clause-stands g c = λ world h.
 pub returns-clause-gives : goal.returns-clause-gives
 returns-clause-gives g c =
     build-gives c.args.dir.now c.args.text.now c.args.list.now _ c.in_ok-spec.spec c.in_ok-spec.ensures.ok c.requires.path c.in_ok-dataset.dataset
-<<<<<<< HEAD
-    c.in_ok-dataset.ensures.finds c.in_ok-dataset.ensures.path c.in_ok-cols.cols.items c.in_ok-cols.ensures.ok _ ?
-=======
     c.in_ok-dataset.ensures.finds c.in_ok-dataset.ensures.path c.in_ok-cols.cols.items c.in_ok-cols.ensures.ok _ c.index_count.ensures
->>>>>>> 211ca151a56768beb43328aea0a1445f1e34b58a
 
 pub returns-clause-kept : goal.returns-clause-kept
 returns-clause-kept g c =
@@ -115,8 +104,4 @@ pub returns-clause-stands : goal.returns-clause-stands
 returns-clause-stands g c = λ world h.
     build-done c.args.dir.now c.args.text.now c.args.list.now _ c.in_ok-spec.spec c.in_ok-spec.ensures.ok c.requires.path c.in_ok-dataset.dataset
     c.in_ok-dataset.ensures.finds c.in_ok-dataset.ensures.path c.in_ok-cols.cols.items c.in_ok-cols.ensures.ok _ _ c.opened.ensures.files world h
-<<<<<<< HEAD
-    c.build_parts.result _ _ c.in_ok-build_parts.was ? c.build_parts.ensures.stands
-=======
     c.build_parts.result _ _ c.in_ok-build_parts.was c.index_count.ensures c.build_parts.ensures.stands
->>>>>>> 211ca151a56768beb43328aea0a1445f1e34b58a

@@ -66,4 +66,3 @@ pub record Means (files : Option Files) (dir : List ℕ) (meta : PartMeta) (m : 
   pub has : IsPartAt files dir meta part
   pub meant : m ≡ meaning_of dir meta.schema part
   pub law : IsMeaningOf meta.rows (FitsColumn meta.schema) m
-

@@ -48,11 +48,11 @@ impl<'a> PartConditions<'a> {
     fn placed(&self, col: usize) -> PlacedColumn<'_>
         requires { col < length self.now.part.now.schema }
         ensures { result ≡ record {
-            dir = self.now.dir.now;
-            number = self.now.part.now.number;
-            rows = self.now.part.now.rows;
-            col = col;
-            column = slice_index_or self.now.part.now.schema col no_column;
+          dir = self.now.dir.now;
+          number = self.now.part.now.number;
+          rows = self.now.part.now.rows;
+          col = col;
+          column = slice_index_or self.now.part.now.schema col no_column;
         } }
     {
         PlacedColumn {
@@ -73,6 +73,7 @@ impl<'a> Conditions for PartConditions<'a> {
     ghost use Rattle.two_stage.specs.FaultLaws.{not_of_store, of_memory};
 
     type Column = Kept;
+
     type Fault = EvalFault;
 
     ghost fits = { λ c condition. FitsColumn c.part.now.schema condition };

@@ -175,12 +175,7 @@ impl OpenIndex {
     }
 
     /// The bitmap of a number.
-    fn fetch_one<S: Store>(
-        &self,
-        alloc: Global,
-        store: &mut S,
-        k: u32,
-    ) -> Result<Wah, EvalFault>
+    fn fetch_one<S: Store>(&self, alloc: Global, store: &mut S, k: u32) -> Result<Wah, EvalFault>
         requires { k + 1 < length self.now.head.offsets }
         ensures cause { HasCause (S.faults store.old) (S.faults store.new) (IsRefused result IsOfStore) }
         ensures files { SameFiles (S.files store.old) (S.files store.new) }

@@ -256,7 +256,11 @@ fn needed_bitmaps_and_candidates_are_read(rt: HostRuntime) -> Result<(), Fail> {
     let bitmaps: [(&[File], u64, &[Read]); 4] = [
         (&[], 195, &[(207, 12), (219, 12)]),
         (TEN_RANGE, 184, &[(184, 12), (196, 12), (196, 12)]),
-        (TEN_INTERVAL, 187, &[(187, 12), (199, 12), (187, 12), (199, 12)]),
+        (
+            TEN_INTERVAL,
+            187,
+            &[(187, 12), (199, 12), (187, 12), (199, 12)],
+        ),
         (TEN_TWO_LEVEL, 238, &[(274, 12), (250, 12)]),
     ];
     for (more, first, want) in bitmaps {
@@ -277,7 +281,12 @@ fn needed_bitmaps_and_candidates_are_read(rt: HostRuntime) -> Result<(), Fail> {
 /// A file of a column that is refused is told by the column's place; the other column isn't looked at.
 #[test]
 fn damaged_files_are_told(rt: HostRuntime) -> Result<(), Fail> {
-    let mut first = store(&rt, TEN, &[("D/p0000/b.msk", b""), ("D/p0000/b.idx", b"FBIX")], &[]);
+    let mut first = store(
+        &rt,
+        TEN,
+        &[("D/p0000/b.msk", b""), ("D/p0000/b.idx", b"FBIX")],
+        &[],
+    );
     match numbers::<_, Brand>(&rt, rt.blank(), &mut first, "D", "b = 1") {
         Err(EvalFault::Col(1, ColFault::Mask(_))) => (),
         _ => rt.panic("the mask passes"),
@@ -286,7 +295,12 @@ fn damaged_files_are_told(rt: HostRuntime) -> Result<(), Fail> {
         Ok(have) => assert!(rt; have == (7, 10, 8, 3)),
         Err(_) => rt.panic("no answer"),
     }
-    let mut second = store(&rt, TEN, &[("D/p0000/b.idx", b"FBIX"), ("D/p0000/a", b"")], &[]);
+    let mut second = store(
+        &rt,
+        TEN,
+        &[("D/p0000/b.idx", b"FBIX"), ("D/p0000/a", b"")],
+        &[],
+    );
     match numbers::<_, Brand>(&rt, rt.blank(), &mut second, "D", "b = 1") {
         Err(EvalFault::Index(1, IndexFault::Short)) => (),
         _ => rt.panic("the index passes"),
@@ -295,7 +309,12 @@ fn damaged_files_are_told(rt: HostRuntime) -> Result<(), Fail> {
         Err(EvalFault::Col(0, ColFault::WrongLength { want: 40, have: 0 })) => (),
         _ => rt.panic("the values pass"),
     }
-    let mut third = store(&rt, WORDS, &[("W/p0000/c.dic", b"\x01"), ("W/p0000/t.sp", b"")], &[]);
+    let mut third = store(
+        &rt,
+        WORDS,
+        &[("W/p0000/c.dic", b"\x01"), ("W/p0000/t.sp", b"")],
+        &[],
+    );
     match numbers::<_, Brand>(&rt, rt.blank(), &mut third, "W", "c = 'x'") {
         Err(EvalFault::Words(0, DicFault::Short)) => (),
         _ => rt.panic("the words pass"),

@@ -22,9 +22,6 @@ use steps::Steps;
 use wah_iter::from_rows;
 use wah_words::Wah;
 
-/// From so many rows on, guesses at places are worth their room.
-const MANY_ROWS: usize = 4_096;
-
 /// The values with one key: the least and the greatest of them, and their rows.
 #[derive(Drop)]
 pub struct Bin {
@@ -159,10 +156,7 @@ impl Gatherer {
             mut groups,
             mut places,
         } = self;
-        places.reserve(values.len())?;
-        if places.len() + values.len() >= MANY_ROWS {
-            known.make_room()?;
-        }
+        known.make_room(values.len())?;
         let mut is_there = Vec::with_capacity(alloc, values.len())?;
         append_mask(&mut is_there, present, steps)?;
         let is_there = is_there.as_slice();
@@ -206,10 +200,11 @@ fn bin_at(
     ensures { IfOk result (λ bin. bin ≡ bin_for groups.now places.now place) }
 {
     let group = groups[place as usize];
+    let at_place = rows.at(place);
     Ok(Bin {
         least: group.least,
         greatest: group.greatest,
-        rows: from_rows(alloc, rows.at(place), places.len() as u32)?,
+        rows: from_rows(alloc, at_place, places.len() as u32)?,
     })
 }
 

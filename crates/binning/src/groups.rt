@@ -1,5 +1,5 @@
 //! The groups of a column's values, one for each key.
-ghost use Rattle.std.specs.Prelude.{◌≡◌, ◌+◌, ◌<◌, ◌≤◌, ◌==◌, ◌∷◌, [], ◌++◌, if◌then◌else◌, Some, None, length, slice_index_or, slice_set, false, IfOk, OnOk, IsTrue};
+ghost use Rattle.std.specs.Prelude.{◌≡◌, ◌+◌, ◌<◌, ◌≤◌, ◌==◌, ◌∷◌, [], ◌++◌, if◌then◌else◌, Some, None, length, slice_index_or, slice_set, false, IfOk, OnOk, IfSome};
 ghost use Rattle.std.specs.List.{AllByRecursion};
 ghost use Rattle.wah_words.specs.Limits.{most_bits};
 ghost use Rattle.binning.specs.Gathered.{AreDistinct, is_in, place_in, keys_in, Knows, with_value};
@@ -16,34 +16,35 @@ pub struct Group {
     pub greatest: i128,
 }
 
-/// Whether a key's group is at this place.
+/// The place `last`, where it is that of the key's group.
 #[inline(always)]
-fn is_at(groups: &[Group], place: usize, key: i128) -> bool
+fn if_at(groups: &[Group], last: usize, key: i128) -> Option<u32>
     requires few { length groups.now ≤ most_bits }
     requires distinct { AreDistinct (keys_in groups.now) }
-    ensures { IsTrue result → Some place ≡ place_if key (keys_in groups.now) }
+    ensures { IfSome result (λ place. Some place ≡ place_if key (keys_in groups.now)) }
 {
-    place < groups.len() && groups[place].key == key
+    if last < groups.len() && groups[last].key == key {
+        return Some(last as u32);
+    }
+    None
 }
 
 /// The place of a key's group. The group of the row before, at `last`, is looked at first, then the one that is
 /// guessed.
 #[inline(always)]
-fn find(known: &mut KeyPlaces, groups: &[Group], last: u32, key: i128) -> Option<u32>
-    requires knows { Knows known.old.map (keys_in groups.now) }
+fn find(known: &KeyPlaces, groups: &[Group], last: u32, key: i128) -> Option<u32>
+    requires knows { Knows known.now.map (keys_in groups.now) }
     requires few { length groups.now ≤ most_bits }
     requires distinct { AreDistinct (keys_in groups.now) }
-    ensures place { result ≡ place_if key (keys_in groups.now) }
-    ensures knows { Knows known.new.map (keys_in groups.now) }
+    ensures { result ≡ place_if key (keys_in groups.now) }
 {
-    if is_at(groups, last as usize, key) {
-        return Some(last);
+    if let Some(place) = if_at(groups, last as usize, key) {
+        return Some(place);
     }
-    let guess = known.guess(key);
-    if is_at(groups, guess as usize, key) {
-        return Some(guess);
+    if let Some(place) = if_at(groups, known.guess(key) as usize, key) {
+        return Some(place);
     }
-    known.get(key)
+    known.map.get(&key).copied()
 }
 
 /// Adds a value to its group.
@@ -72,7 +73,7 @@ fn add_group(
     ensures knows { OnOk result (Knows known.new.map (keys_in groups.new.items)) }
 {
     let place = groups.len() as u32;
-    known.insert(key, place)?;
+    known.map.insert(key, place)?;
     groups.push(Group {
         key,
         least: v,
@@ -98,6 +99,7 @@ pub(crate) fn place(
 {
     match find(known, groups, last, key) {
         Some(place) => {
+            known.note(key, place);
             grow(groups, place as usize, v);
             Ok(place)
         }

@@ -1,7 +1,6 @@
 //! The place of each key.
-ghost use Rattle.std.specs.Prelude.{◌≡◌, if◌then◌else◌, Some, OnOk, ℤ};
-ghost use Rattle.std.specs.Ordering.{int_eq};
-ghost use Rattle.std.specs.HashMap.{get, IsEmpty};
+ghost use Rattle.std.specs.Prelude.{◌≡◌};
+ghost use Rattle.std.specs.HashMap.{IsEmpty};
 
 use std::alloc::{AllocError, Global};
 use std::collections::HashMap;
@@ -12,11 +11,14 @@ pub(crate) const NO_PLACE: u32 = u32::MAX;
 /// How many guesses are kept: 512 KiB, so that they stay near the processor.
 const GUESSES: usize = 131_072;
 
-/// The places of keys by a hash map. Before it a small table guesses: it keeps, by a part of the key's hash, the place
-/// of the key looked up last, which may be another key's.
+/// From so many rows on, guesses are worth their room.
+const MANY_ROWS: usize = 4_096;
+
+/// The places of keys by a hash map, with a small table of guesses: for a part of a key's hash it has the place of the
+/// key found last, which may be another key's, so that the group at this place decides.
 #[derive(Drop)]
 pub struct KeyPlaces {
-    map: HashMap<i128, u32>,
+    pub(crate) map: HashMap<i128, u32>,
     guesses: Vec<u32>,
 }
 
@@ -39,11 +41,13 @@ impl KeyPlaces {
         }
     }
 
-    /// Makes room for guesses.
-    pub(crate) fn make_room(&mut self) -> Result<(), AllocError>
+    /// Makes room for guesses, where there are many rows.
+    pub(crate) fn make_room(&mut self, rows: usize) -> Result<(), AllocError>
         ensures { self.new.map ≡ self.old.map }
     {
-        self.guesses.resize(GUESSES, NO_PLACE)?;
+        if rows >= MANY_ROWS {
+            self.guesses.resize(GUESSES, NO_PLACE)?;
+        }
         Ok(())
     }
 
@@ -55,32 +59,11 @@ impl KeyPlaces {
 
     /// Keeps the place as the guess for its key.
     #[inline(always)]
-    fn note(&mut self, key: i128, place: u32)
+    pub(crate) fn note(&mut self, key: i128, place: u32)
         ensures { self.new.map ≡ self.old.map }
     {
         if let Some(guess) = self.guesses.get_mut(slot(key)) {
             *guess = place;
         }
-    }
-
-    /// The place of a key, which is the guess from now on.
-    pub(crate) fn get(&mut self, key: i128) -> Option<u32>
-        ensures value { result ≡ get int_eq self.old.map key }
-        ensures same { self.new.map ≡ self.old.map }
-    {
-        let found = self.map.get(&key).copied();
-        if let Some(place) = found {
-            self.note(key, place);
-        }
-        found
-    }
-
-    /// Puts a key in, with its place.
-    pub(crate) fn insert(&mut self, key: i128, place: u32) -> Result<(), AllocError>
-        ensures { OnOk result ((k : ℤ) → get int_eq self.new.map k ≡ (if int_eq key k then Some place else get int_eq self.old.map k)) }
-    {
-        self.map.insert(key, place)?;
-        self.note(key, place);
-        Ok(())
     }
 }

@@ -7,10 +7,9 @@ use std::alloc::{AllocError, Global};
 use std::marker::Model;
 use wah_words::{Builder, Wah};
 
-/// A vector that grows at any place by equal values, and by the places of numbers. It is whole groups in a builder, and the
-/// values after them as a number.
+/// Whole groups in a builder, and the values after them as a number.
 #[derive(Drop)]
-pub struct Appender {
+pub(crate) struct Appender {
     out: Builder,
     part: u32,
     count: u32,
@@ -51,8 +50,7 @@ fn joined_bits(part: u32, bits: u32, count: u32) -> u64
 }
 
 impl Appender {
-    /// No values yet, with room for so many regular words.
-    pub fn with_room(alloc: Global, words: u32) -> Result<Appender, AllocError>
+    pub(crate) fn with_room(alloc: Global, words: u32) -> Result<Appender, AllocError>
         ensures empty { IfOk result (λ a. a.values ≡ []) }
         ensures room { IfOk result (λ a. words ≤ a.spare) }
     {
@@ -65,7 +63,7 @@ impl Appender {
 
     /// Appends the low `count` places of the number.
     #[inline(always)]
-    pub fn append_bits(&mut self, bits: u32, count: u32)
+    pub(crate) fn append_bits(&mut self, bits: u32, count: u32)
         requires few { count ≤ 31 }
         requires fits { bits < 2 ^ count }
         requires limit { length self.old.values + count ≤ most_bits }
@@ -105,7 +103,7 @@ impl Appender {
 
     /// Appends equal values.
     #[inline(always)]
-    pub fn append_fill(&mut self, bit: bool, count: u32)
+    pub(crate) fn append_fill(&mut self, bit: bool, count: u32)
         requires limit { length self.old.values + count ≤ most_bits }
         requires room { min 2 ((length self.old.values + count) / 31 - length self.old.values / 31) ≤ self.old.spare }
         ensures values { self.new.values ≡ self.old.values ++ replicate count bit }
@@ -121,7 +119,7 @@ impl Appender {
 
     /// The vector of the values.
     #[inline(always)]
-    pub fn finish(self) -> Wah
+    pub(crate) fn finish(self) -> Wah
         ensures { result ≡ self.values }
     {
         let Appender {

@@ -19,4 +19,3 @@ pub mod Longs
 pub mod Prints
 pub mod PrintLaws
 pub mod WhereLaws
-pub mod Within

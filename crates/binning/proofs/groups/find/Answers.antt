@@ -5,7 +5,7 @@ use mir.Val.{SFits, to_z}
 use Rattle.binning.specs.Gathered.{keys_in}
 use Rattle.binning.specs.declared.groups.Group.{Group}
 use Rattle.binning.proofs.GroupLemmas.{place_if_at, keys_in-get, length-keys_in}
-use Rattle.binning.proofs.groups.if_at.Goals as goal
+use Rattle.binning.proofs.groups.find.Goals as goal
 
 pub returns-then-groups-last : goal.returns-then-groups-last
 returns-then-groups-last c =

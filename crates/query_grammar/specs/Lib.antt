@@ -1,7 +1,0 @@
-pub mod Grammar
-pub mod Language
-pub mod Limits
-pub mod Picks
-pub mod Reading
-pub mod Refusals
-pub mod Shorter

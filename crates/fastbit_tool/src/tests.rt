@@ -548,7 +548,15 @@ fn a_fault_ends_a_session(rt: HostRuntime) -> Result<(), Fail> {
 fn builds_indexes(rt: HostRuntime) -> Result<(), Fail> {
     let mut store = MemStore::make(rt.alloc(), &[], 0)?;
     let bytes = "host,code,bytes,path\nalpha,200,512,/a\nbeta,404,,/b\n";
-    expect_load(&rt, rt.blank(), &mut store, WEB_LOG, bytes, 0, "loaded 2 rows\n")?;
+    expect_load(
+        &rt,
+        rt.blank(),
+        &mut store,
+        WEB_LOG,
+        bytes,
+        0,
+        "loaded 2 rows\n",
+    )?;
     for (dir, spec, code, printed) in [
         ("L", "<binning bounds=(300)/>", 0, "built 3 indexes\n"),
         ("L", "<binning", 5, "error 5 spec Syntax\n"),

@@ -41,10 +41,7 @@ pub(crate) fn op_at(tokens: &[Placed]) -> Option<(Op, &[Placed])>
 }
 
 /// The column name at the front, and what follows it.
-pub fn name_at(
-    alloc: Global,
-    tokens: &[Placed],
-) -> Result<Option<(ColName, &[Placed])>, AllocError>
+pub fn name_at(alloc: Global, tokens: &[Placed]) -> Result<Option<(ColName, &[Placed])>, AllocError>
     ensures { IfOk result (λ found. seen_at found ≡ taken name_in (bare tokens.now)) }
 {
     match first(tokens) {

@@ -8,6 +8,7 @@ pub mod KeyLemmas
 pub mod BoundLemmas
 pub mod GroupLemmas
 pub mod OrderLemmas
+pub mod PlaceRowsLemmas
 pub mod GatherLemmas
 pub mod ColumnLemmas
 pub mod KeyOrderLemmas

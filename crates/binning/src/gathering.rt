@@ -10,12 +10,12 @@ ghost use Rattle.binning.specs.Groups.{rows_at};
 ghost use Rattle.binning.specs.BinFor.{bin_for};
 ghost use Rattle.binning.specs.declared.rules.Keying.{Keying};
 
-use crate::groups::{Group, KeyPlace, NO_PLACE, by_key, place, rows_by_place};
+use crate::groups::{Group, KeyPlace, by_key, place};
+use crate::key_places::{KeyPlaces, NO_PLACE};
 use crate::masks::append_mask;
+use crate::place_rows::{PlaceRows, rows_by_place};
 use crate::rules::Rule;
-use sqlite_items::Items;
 use std::alloc::{AllocError, Global};
-use std::collections::HashMap;
 use std::marker::Model;
 use std::sync::ledger::Ledger;
 use steps::Steps;
@@ -36,7 +36,7 @@ pub struct Bin {
 pub struct Gatherer {
     alloc: Global,
     rule: Rule,
-    known: HashMap<i128, u32>,
+    known: KeyPlaces,
     groups: Vec<Group>,
     places: Vec<u32>,
 }
@@ -50,7 +50,7 @@ impl Model for Gatherer {
 
     ghost view = { λ g. record { rule = g.rule; groups = g.groups.items; places = g.places.items } };
 
-    ghost invariant = { λ g. Knows g.known (keys_in g.groups.items) × AreDistinct (keys_in g.groups.items) × (length g.groups.items ≤ length g.places.items) × (length g.places.items ≤ most_bits) };
+    ghost invariant = { λ g. Knows g.known.map (keys_in g.groups.items) × AreDistinct (keys_in g.groups.items) × (length g.groups.items ≤ length g.places.items) × (length g.places.items ≤ most_bits) };
 }
 
 /// The value of a row, where there is one.
@@ -64,7 +64,7 @@ fn cell(is_there: bool, v: i128) -> Option<i128>
 /// Adds a row, and tells its place. The group at `last` is looked at first.
 #[inline(always)]
 fn put_row(
-    known: &mut HashMap<i128, u32>,
+    known: &mut KeyPlaces,
     groups: &mut Vec<Group>,
     places: &mut Vec<u32>,
     rule: &Rule,
@@ -72,25 +72,25 @@ fn put_row(
     cell: Option<i128>,
 ) -> Result<u32, AllocError>
     requires within { IfSome cell IsInRange }
-    requires knows { Knows known.old (keys_in groups.old.items) }
+    requires knows { Knows known.old.map (keys_in groups.old.items) }
     requires distinct { AreDistinct (keys_in groups.old.items) }
     requires few { length groups.old.items < most_bits }
     ensures groups { OnOk result (groups.new.items ≡ groups_after rule.now groups.old.items cell) }
     ensures places { OnOk result (places.new.items ≡ places.old.items ++ place_of rule.now (keys_in groups.old.items) cell ∷ []) }
-    ensures knows { OnOk result (Knows known.new (keys_in groups.new.items)) }
+    ensures knows { OnOk result (Knows known.new.map (keys_in groups.new.items)) }
 {
     let Some(v) = cell else {
         places.push(NO_PLACE)?;
         return Ok(NO_PLACE);
     };
-    let at_place = place(known, groups, last as usize, rule.key(v), v)?;
+    let at_place = place(known, groups, last, rule.key(v), v)?;
     places.push(at_place)?;
     Ok(at_place)
 }
 
 /// Adds rows, of which some are there.
 fn put_rows(
-    known: &mut HashMap<i128, u32>,
+    known: &mut KeyPlaces,
     groups: &mut Vec<Group>,
     places: &mut Vec<u32>,
     rule: &Rule,
@@ -99,11 +99,11 @@ fn put_rows(
 ) -> Result<(), AllocError>
     requires same { length is_there.now ≡ length values.now }
     requires within { AllByRecursion IsInRange values.now }
-    requires knows { Knows known.old (keys_in groups.old.items) }
+    requires knows { Knows known.old.map (keys_in groups.old.items) }
     requires distinct { AreDistinct (keys_in groups.old.items) }
     requires few { length groups.old.items ≤ length places.old.items }
     requires room { length places.old.items + length values.now ≤ most_bits }
-    ensures knows { OnOk result (Knows known.new (keys_in groups.new.items)) }
+    ensures knows { OnOk result (Knows known.new.map (keys_in groups.new.items)) }
     ensures distinct { OnOk result (AreDistinct (keys_in groups.new.items)) }
     ensures few { OnOk result (length groups.new.items ≤ length places.new.items) }
     ensures rows { OnOk result (length places.new.items ≡ length places.old.items + length values.now) }
@@ -127,7 +127,7 @@ impl Gatherer {
         Gatherer {
             alloc,
             rule,
-            known: HashMap::new(alloc),
+            known: KeyPlaces::new(alloc),
             groups: Vec::new(alloc),
             places: Vec::new(alloc),
         }
@@ -156,6 +156,7 @@ impl Gatherer {
             mut groups,
             mut places,
         } = self;
+        known.make_room(values.len())?;
         let mut is_there = Vec::with_capacity(alloc, values.len())?;
         append_mask(&mut is_there, present, steps)?;
         let is_there = is_there.as_slice();
@@ -189,7 +190,7 @@ impl Gatherer {
 fn bin_at(
     alloc: Global,
     groups: &[Group],
-    rows: &[Items<u32>],
+    rows: &PlaceRows,
     places: &[u32],
     place: u32,
 ) -> Result<Bin, AllocError>
@@ -199,7 +200,7 @@ fn bin_at(
     ensures { IfOk result (λ bin. bin ≡ bin_for groups.now places.now place) }
 {
     let group = groups[place as usize];
-    let at_place = rows[place as usize].as_slice();
+    let at_place = rows.at(place);
     Ok(Bin {
         least: group.least,
         greatest: group.greatest,
@@ -212,7 +213,7 @@ fn bins_in_order(
     alloc: Global,
     order: &[KeyPlace],
     groups: &[Group],
-    rows: &[Items<u32>],
+    rows: &PlaceRows,
     places: &[u32],
 ) -> Result<Vec<Bin>, AllocError>
     requires within { AllByRecursion (λ pair. pair.place < length groups.now) order.now }

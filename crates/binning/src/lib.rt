@@ -12,8 +12,10 @@ mod digits;
 mod encodings;
 mod gathering;
 mod groups;
+mod key_places;
 mod laws;
 mod masks;
+mod place_rows;
 mod rules;
 mod span_lists;
 

@@ -16,7 +16,7 @@ use Rattle.fb_types.proofs.CellFacts.{length-RecordFits, CellFits-at}
 use Rattle.fb_types.specs.Table.{Table, AllFit, cell_at}
 use Rattle.fb_types.specs.Types.{ends_of}
 use Rattle.column_file.specs.Values.{ValueFits}
-use Rattle.world.specs.PartFiles.{column_cells, is_present, number_of, texts_of, word_of}
+use Rattle.world.specs.Cells.{column_cells, is_present, number_of, texts_of, word_of}
 use Rattle.dataset.specs.WrittenColumns.{records_from}
 
 -- ---- cut from a table

@@ -10,7 +10,7 @@ use Rattle.fb_types.specs.declared.types.ColType.TheVariants.{Category}
 use Rattle.column_file.specs.Values.{ValueFits}
 use Rattle.text_column.specs.Words.{code_in, first_seen, with_word}
 use Rattle.text_column.proofs.WordLemmas.{code_kept, no_code}
-use Rattle.world.specs.PartFiles.{code_of, dictionary_of, word_of}
+use Rattle.world.specs.Cells.{code_of, dictionary_of, word_of}
 use Rattle.dataset.specs.WrittenColumns.{IsCodeOf, with_cell}
 
 -- ---- one more cell

@@ -22,15 +22,18 @@ use Rattle.text_column.specs.DictionaryFile.{dictionary_bytes}
 use Rattle.part_meta.specs.FileNames.{file_name, mask_name, part_name, values_name}
 use Rattle.part_meta.specs.PartText.{part_text}
 use Rattle.world.specs.World.{Content, IsContent, IsPartition, Partition, World, content_at}
-use Rattle.world.specs.PartFiles.{code_of, column_cells, column_files, columns_files, dictionary_of, is_present, number_of, part_data, part_files, whole_files}
+use Rattle.world.specs.PartFiles.{column_files, columns_files, part_data, part_files, whole_files}
+use Rattle.world.specs.Cells.{code_of, column_cells, dictionary_of, is_present, number_of}
 use Rattle.world.specs.Stands.{PartRests, Stands}
 use Rattle.dataset.specs.declared.content.Dataset.{Dataset}
 use Rattle.dataset.specs.Damage.{Damage, IsColumnDamaged}
 use Rattle.dataset.specs.Found.{dataset_in}
-use Rattle.dataset.specs.InWorld.{HasNumbers, IsColumnOf, IsDatasetOf, stored_numbers}
+use Rattle.dataset.specs.InWorld.{HasNumbers, IsColumnOf, IsDatasetOf}
+use Rattle.world.specs.Cells.{stored_numbers}
 use Rattle.dataset.specs.Opened.{OpensAs}
 use Rattle.dataset.proofs.FitLemmas.{cells_fit, stored_fit}
-use Rattle.dataset.proofs.ListLemmas.{All-at, All-left, All-right, Mapped, map-at}
+use Rattle.world.proofs.PlaceLemmas.{All-at}
+use Rattle.dataset.proofs.ListLemmas.{All-left, All-right, Mapped, map-at}
 use Rattle.dataset.proofs.WorldLemmas.{opened}
 
 -- ---- the files of a column among those of its part

@@ -16,8 +16,7 @@ use Rattle.fb_types.specs.Types.{ends_of, unsigned_ends, width_of}
 use Rattle.column_file.specs.Values.{ValueFits, stored_ends}
 use Rattle.text_column.specs.Words.{IsDictionary, IsWord, code_in, first_seen}
 use Rattle.text_column.proofs.DictionaryLemmas.{seen_dictionary}
-use Rattle.world.specs.PartFiles.{code_of, column_cells, dictionary_of, number_of, word_of}
-use Rattle.dataset.specs.InWorld.{stored_numbers}
+use Rattle.world.specs.Cells.{code_of, column_cells, dictionary_of, number_of, stored_numbers, word_of}
 
 -- ---- the cells of a column
 

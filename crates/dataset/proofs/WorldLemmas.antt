@@ -22,7 +22,8 @@ use Rattle.dataset.specs.Found.{Found, IsFound, dataset_in, found_by, found_in}
 use Rattle.dataset.specs.Found.Found.{Absent, Broken, There}
 use Rattle.dataset.specs.InWorld.{IsDatasetOf}
 use Rattle.dataset.specs.Opened.{HasCatalog, HasPart, OpensAs, catalog_in}
-use Rattle.dataset.proofs.ListLemmas.{All-at, All-right, Mapped, map-at}
+use Rattle.world.proofs.PlaceLemmas.{All-at}
+use Rattle.dataset.proofs.ListLemmas.{All-right, Mapped, map-at}
 use Rattle.dataset.proofs.SameLemmas.{same_catalog, same_dataset}
 
 -- ---- the texts of a dataset that rests

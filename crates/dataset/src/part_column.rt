@@ -6,7 +6,7 @@ ghost use Rattle.fb_outside.specs.Names.{IsPath};
 ghost use Rattle.fb_types.specs.Cells.{CellFits};
 ghost use Rattle.fb_types.specs.Types.{ends_of};
 ghost use Rattle.fb_types.specs.declared.cells.Cell.TheVariants as cell;
-ghost use Rattle.world.specs.PartFiles.{column_cells, is_present};
+ghost use Rattle.world.specs.Cells.{column_cells, is_present};
 ghost use Rattle.dataset.specs.WrittenColumns.{cell_of, records_from};
 ghost use Rattle.part_meta.specs.PartText.{most_rows};
 

@@ -41,7 +41,7 @@ returns-in-Some-clause-knows c =
     let f = place_found c.args.key (keys_in items) c.in-Some.place e in
     let g : c.grow.new.groups.items ≡ grown items c.in-Some.place c.args.v = simp to_z-of_z at c.grow.ensures in
     let ks : keys_in c.grow.new.groups.items ≡ keys_in items = ap keys_in (g ∙ ap (λ (n : ℕ). grown items n c.args.v) f.1 ∙ grown_with items c.args.key c.args.v f.0) ∙ keys_with items c.args.key c.args.v f.0 in
-    λ k. c.requires.knows k ∙ ap (λ (xs : List ℤ). place_if k xs) (sym ks)
+    λ k. rw c.note.ensures (c.requires.knows k ∙ ap (λ (xs : List ℤ). place_if k xs) (sym ks))
 
 pub add_group-requires-clause-absent : goal.add_group-requires-clause-absent
 add_group-requires-clause-absent c =

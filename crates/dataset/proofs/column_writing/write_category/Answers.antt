@@ -7,7 +7,7 @@ use Rattle.part_meta.specs.declared.names.FileKind.TheVariants as file
 use Rattle.text_column.specs.DictionaryFile.{dictionary_bytes}
 use Rattle.text_column.specs.Texts.{starts_bytes, starts_of, text_file}
 use Rattle.fb_types.specs.declared.types.ColType.TheVariants.{Category}
-use Rattle.world.specs.PartFiles.{code_of, dictionary_of, is_present, number_of, texts_of}
+use Rattle.world.specs.Cells.{code_of, dictionary_of, is_present, number_of, texts_of}
 use Rattle.dataset.specs.WrittenColumns.{file_in}
 use Rattle.dataset.proofs.column_writing.write_category.Goals as goal
 

@@ -7,7 +7,7 @@ use Rattle.fb_types.specs.declared.cells.Cell.{Cell}
 use Rattle.fb_types.specs.declared.cells.Cell.TheVariants.{Null}
 use Rattle.fb_types.specs.declared.types.ColType.TheVariants.{Category}
 use Rattle.column_file.specs.Values.{ValueFits}
-use Rattle.world.specs.PartFiles.{code_of, dictionary_of}
+use Rattle.world.specs.Cells.{code_of, dictionary_of}
 use Rattle.dataset.specs.WrittenColumns.{cell_of, with_cell}
 use Rattle.dataset.proofs.CellLemmas.{mapped_more}
 use Rattle.dataset.proofs.CodeLemmas.{AllCoded, all_coded_kept, all_coded_more, code_fits, code_is, codes_same, dictionary_more, length-with_cell}

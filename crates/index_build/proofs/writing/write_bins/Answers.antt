@@ -1,5 +1,6 @@
-use Rattle.std.proofs.Common.{ap, sym, ◌∙◌, arith}
-use Rattle.index_build.proofs.IndexLemmas.{of_column_few, of_column_index}
+use Rattle.std.proofs.Common.{◌≡◌, inl, inr, Some, length, ap, sym, ◌∙◌, arith}
+use Rattle.index_build.proofs.BuildLemmas.{answers_told, leaves_put}
+use Rattle.index_build.proofs.IndexLemmas.{of_column_counted, of_column_few, of_column_index}
 use Rattle.index_build.proofs.writing.write_bins.Goals as goal
 
 pub write_index-requires : goal.write_index-requires

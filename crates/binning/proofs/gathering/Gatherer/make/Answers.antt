@@ -6,7 +6,7 @@ pub invariant_of-result : goal.invariant_of-result
 invariant_of-result c =
     let e = c.new-2.ensures.items in
     let f = c.new-3.ensures.items in
-    rw (e, f) ((λ k. rw c.new.ensures.empty refl), tt, omega arith, omega arith)
+    rw (e, f) ((λ k. rw c.new.ensures refl), tt, omega arith, omega arith)
 
 pub returns-clause-gathered : goal.returns-clause-gathered
 returns-clause-gathered c = gathered_none c.args.rule _ _ c.new-2.ensures.items c.new-3.ensures.items

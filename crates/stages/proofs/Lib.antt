@@ -1,0 +1,6 @@
+pub mod LookLemmas
+pub mod ListLemmas
+pub mod RowLemmas
+pub mod FirstLemmas
+pub mod SecondLemmas
+pub mod PlanRows

@@ -1,0 +1,16 @@
+pub mod Columns
+pub mod Known
+pub mod BinRuns
+pub mod Bitmaps
+pub mod Files
+pub mod Parts
+pub mod Faults
+pub mod FaultLaws
+pub mod Opened
+pub mod Codes
+pub mod Indexed
+pub mod Found
+pub mod Values
+pub mod Settled
+pub mod Answers
+pub mod Samples

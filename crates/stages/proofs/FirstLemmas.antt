@@ -30,13 +30,13 @@ pub record Settles {O : Type 0} (means : Meaning → Type 0) (is_open : PlanAtom
   pub reads : (m : Meaning) → means m → AddsLooks old new (is_free_of m atoms) m.is_bitmap (flat_map m.fetched (take place atoms)) (Unit {0})
   pub steps : (m : Meaning) → means m → now ≤ before + 2 * groups_and_rest m.rows * sum_by m.work (take place atoms)
 
-pub none_settled : {O : Type 0} (means : Meaning → Type 0) (is_open : PlanAtom → O → Type 0) (rows : ℕ) (atoms : List PlanAtom) (old : Option (List Look)) (before : ℕ) → Settles {O = O} means is_open rows atoms old before 0 [] [] old before
-none_settled means is_open rows atoms old before = record {
-  number = refl;
-  opened = refl;
-  long = All-from_recursion (λ a. length a ≡ rows) [] tt;
-  are_open = λ place atom column h k. absurd cc;
-  answered = λ m is. refl;
+pub none_settled : {O : Type 0} (means : Meaning → Type 0) (is_open : PlanAtom → O → Type 0) (rows : ℕ) (atoms : List PlanAtom) (old : Option (List Look)) (before : ℕ) (answers : List (List Three)) (open_ : List O) → answers ≡ [] → open_ ≡ [] → Settles {O = O} means is_open rows atoms old before 0 answers open_ old before
+none_settled means is_open rows atoms old before answers open_ none no_column = record {
+  number = ap length none;
+  opened = ap length no_column;
+  long = subst (All (λ a. length a ≡ rows)) (sym none) (All-from_recursion (λ a. length a ≡ rows) [] tt);
+  are_open = subst (AreOpen is_open atoms) (sym no_column) (λ place atom column h k. absurd cc);
+  answered = λ m is. none;
   reads = λ m is. adds_none old old (is_free_of m atoms) m.is_bitmap (Unit {0}) refl;
   steps = λ m is. omega arith;
 }
@@ -91,6 +91,11 @@ one_settled means is_open rows atoms old before place answers open_ mid new then
     cost_more g s t u a b c k l e =
         let z : g * c ≡ g * a + g * b = ap (λ n. g * n) e ∙ grind arith in
         omega (arith, k, l, z)
+
+-- the same of the lists that have them
+pub kept_settled : {O : Type 0} (means : Meaning → Type 0) (is_open : PlanAtom → O → Type 0) (rows : ℕ) (atoms : List PlanAtom) (old : Option (List Look)) (before : ℕ) (place : ℕ) (all answers : List (List Three)) (columns_ open_ : List O) (new : Option (List Look)) (now : ℕ) → all ≡ answers → columns_ ≡ open_ → Settles means is_open rows atoms old before place answers open_ new now → Settles means is_open rows atoms old before place all columns_ new now
+kept_settled means is_open rows atoms old before place all answers columns_ open_ new now e f h =
+    subst (λ l. Settles means is_open rows atoms old before place all l new now) (sym f) (subst (λ l. Settles means is_open rows atoms old before place l open_ new now) (sym e) h)
 
 -- ---- where a call is refused
 

@@ -4,3 +4,4 @@ pub mod RowLemmas
 pub mod FirstLemmas
 pub mod SecondLemmas
 pub mod PlanRows
+pub mod StepLemmas

@@ -1,6 +1,6 @@
 -- Lists up to a place, and the item there.
-use Rattle.std.proofs.Common.{◌≡◌, ℕ, zero, suc, ◌+◌, ◌*◌, ◌<◌, ◌≤◌, ◌||◌, Bool, true, false, cond, IsTrue, List, [], ◌∷◌, ◌++◌, Option, Some, None, All, length, map, take, drop, get_or, refl, sym, ap, subst, ◌∙◌, arith, append_assoc, add-one, length-append}
-use Rattle.std.specs.Prelude.{slice_get}
+use Rattle.std.proofs.Common.{◌≡◌, ℕ, zero, suc, ◌+◌, ◌*◌, ◌<◌, ◌≤◌, ◌||◌, Bool, true, false, cond, IsTrue, List, [], ◌∷◌, ◌++◌, Option, Some, None, Result, Ok, Err, All, length, map, take, drop, get_or, refl, sym, ap, subst, ◌∙◌, arith, append_assoc, add-one, length-append}
+use Rattle.std.specs.Prelude.{IsErr, IsOk, slice_get}
 use Rattle.std.specs.List.{AllByRecursion, count_by, flat_map, list_any, sum_by}
 use Rattle.std.proofs.Math.Nat.{mul-le-mul_left}
 use Rattle.std.proofs.lemmas.List.{take_more, map-append}
@@ -69,6 +69,17 @@ any_at p [] i x h k = absurd cc
 any_at p (y ∷ ys) zero x h k = let same : x ≡ y = cc in or_left (p y) (list_any p ys) (subst (λ z. IsTrue (p z)) same k)
 any_at p (y ∷ ys) (suc i) x h k = or_right (p y) (list_any p ys) (any_at p ys i x h k)
 
+or_weaker : (a b c d : Bool) → (IsTrue a → IsTrue c) → (IsTrue b → IsTrue d) → IsTrue (a || b) → IsTrue (c || d)
+or_weaker true b c d f g h = or_left c d (f refl)
+or_weaker false b c d f g h = or_right c d (g h)
+
+pub any_weaker : {X : Type 0} (p q : X → Bool) → ((x : X) → IsTrue (p x) → IsTrue (q x)) → (xs : List X) → IsTrue (list_any p xs) → IsTrue (list_any q xs)
+any_weaker p q f [] h = h
+any_weaker p q f (x ∷ xs) h = or_weaker (p x) (list_any p xs) (q x) (list_any q xs) (f x) (any_weaker p q f xs) h
+
+pub first_holds : (a b : Bool) → IsTrue a → IsTrue (a || b)
+first_holds a b h = or_left a b h
+
 pub map_at : {X Y : Type 0} (f : X → Y) (xs : List X) (i : ℕ) (x : X) (d : Y) → slice_get xs i ≡ Some x → get_or (map f xs) i d ≡ f x
 map_at f [] i x d h = absurd cc
 map_at f (y ∷ ys) zero x d h = let same : y ≡ x = cc in ap f same
@@ -76,6 +87,12 @@ map_at f (y ∷ ys) (suc i) x d h = map_at f ys i x d h
 
 pub one_long : {X : Type 0} (P : X → Type 0) (x : X) → P x → All P (x ∷ [])
 one_long P x h = All-from_recursion P (x ∷ []) (h, tt)
+
+-- ---- answers of calls
+
+pub err_not_ok : {A E : Type 0} (r : Result A E) → IsErr r → IsOk r → ⊥
+err_not_ok (Ok value) h k = cc
+err_not_ok (Err fault) h k = cc
 
 -- ---- steps
 

@@ -1,9 +1,11 @@
 -- Reads that calls add one after another: they are joined, less is said of them, and those of a call that was refused are a front.
-use Rattle.std.proofs.Common.{◌≡◌, Bool, IsTrue, true, List, [], ◌∷◌, ◌++◌, Option, refl, sym, ap, subst, ◌∙◌, append_assoc, append-nil}
+use Rattle.std.proofs.Common.{◌≡◌, ℕ, ◌≤◌, arith, Result, Err, Bool, IsTrue, true, List, [], ◌∷◌, ◌++◌, Option, refl, sym, ap, subst, ◌∙◌, append_assoc, append-nil}
 use Rattle.std.specs.List.{AllByRecursion, filter}
 use Rattle.std.proofs.lemmas.List.Elements.{filter-append}
+use Rattle.fb_outside.specs.Causes.{HasCause}
 use Rattle.fb_outside.specs.Reads.{Look, AddsReads}
 use Rattle.fb_outside.proofs.ReadLemmas.{AddsReads-trans, AddsReads-weaken, AddsReads-same, all_weaken}
+use Rattle.stages.specs.Faults.{IsRefused}
 use Rattle.stages.specs.Looks.{AddsLooks, Looks}
 
 all_joined : (P : Look → Type 0) (xs ys : List Look) → AllByRecursion P xs → AllByRecursion P ys → AllByRecursion P (xs ++ ys)
@@ -62,3 +64,10 @@ adds_none old new allowed is_bitmap done e =
 pub adds_done : (old new : Option (List Look)) (allowed is_bitmap : Look → Bool) (xs : List Look) (done more : Type 0) → (more → done) → AddsLooks old new allowed is_bitmap xs done → AddsLooks old new allowed is_bitmap xs more
 adds_done old new allowed is_bitmap xs done more f h =
     AddsReads-weaken {P = Looks allowed is_bitmap xs done} {Q = Looks allowed is_bitmap xs more} old new (λ a l. record { each = l.each; left = l.left; front = l.front; whole = λ is. l.whole (f is) }) h
+
+-- ---- calls that were refused for want of memory
+
+-- the store didn't fail
+pub no_cause : {A E : Type 0} (result : Result A E) (is_store : E → Type 0) (fault : E) (before now : ℕ) → result ≡ Err fault → (is_store fault → ⊥) → now ≡ before → HasCause before now (IsRefused result is_store)
+no_cause result is_store fault before now refused not_store same =
+    subst (λ r. HasCause before now (IsRefused r is_store)) (sym refused) (record { later = omega (arith, same); rose = λ failed. absurd (not_store failed); told = λ _. same })

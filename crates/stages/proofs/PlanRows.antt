@@ -1,6 +1,6 @@
 -- From the conditions' answers on the rows on which a plan is Unknown to the rows on which it is true.
-use Rattle.std.proofs.Common.{◌≡◌, ℕ, zero, suc, ◌+◌, ◌*◌, ◌<◌, ◌≤◌, ◌||◌, ◌&&◌, Bool, true, false, not, cond, IsTrue, List, [], ◌∷◌, Option, All, length, map, get_or, refl, sym, ap, subst, ◌∙◌, arith}
-use Rattle.std.specs.List.{AllByRecursion, count_by, filter, list_any, range_with_len, sum_by}
+use Rattle.std.proofs.Common.{◌≡◌, ℕ, zero, suc, ◌+◌, ◌*◌, ◌<◌, ◌≤◌, ◌||◌, ◌&&◌, Bool, true, false, not, cond, IsTrue, List, [], ◌∷◌, Option, All, length, map, get_or, refl, sym, ap, subst, ◌∙◌, arith, append-nil}
+use Rattle.std.specs.List.{AllByRecursion, count_by, filter, flat_map, list_any, range_with_len, sum_by}
 use Rattle.std.proofs.lemmas.List.{length-map}
 use Rattle.std.proofs.lemmas.List.Elements.{All-from_recursion}
 use Rattle.std.proofs.lemmas.List.FromFn.{get_or-map-range_with_len, length-map-range_with_len}
@@ -18,11 +18,13 @@ use Rattle.three_valued.specs.Plans.{AreDecided, AreSound, IsSound, atoms_of, is
 use Rattle.three_valued.specs.Rows.{columns, each_row}
 use Rattle.three_valued.specs.Tables.{decided, is_possible, is_unknown, is_yes}
 use Rattle.three_valued.proofs.SoundLemmas.{known_truth, sound_plans}
-use Rattle.stages.specs.Answer.{is_allowed_in, is_allowed_on, met_of, true_of}
+use Rattle.stages.specs.Answer.{bitmaps_in, is_allowed_in, is_allowed_on, is_free_in, met_of, true_of}
 use Rattle.stages.specs.Looks.{AddsLooks}
 use Rattle.stages.specs.Meaning.{IsMeaningOf, Meaning}
 use Rattle.stages.specs.Second.{candidates_of, exact_of, settled_of}
-use Rattle.stages.proofs.LookLemmas.{adds_weaker}
+use Rattle.stages.proofs.FirstLemmas.{is_free_of}
+use Rattle.stages.proofs.ListLemmas.{any_weaker, first_holds}
+use Rattle.stages.proofs.LookLemmas.{adds_front, adds_joined, adds_none, adds_weaker}
 use Rattle.stages.proofs.RowLemmas.{count_by-filter, count_by-map, each_place-map, map-map, map_same, rows_from-map}
 use Rattle.stages.proofs.SecondLemmas.{is_allowed_of}
 
@@ -229,3 +231,34 @@ pub told_reads : (m : Meaning) (plan : Plan) (atoms : List PlanAtom) (whole : Li
 told_reads m plan atoms whole unknown old new done all same open_ reads =
     adds_weaker old new (is_allowed_of m unknown atoms) (is_allowed_in m plan) m.is_bitmap [] done
     (λ look allowed. subst IsTrue (ap (λ u. is_allowed_of m u atoms look) (unknown_rows m plan whole unknown same open_) ∙ ap (λ l. is_allowed_of m (unknown_of m plan) l look) all ∙ allowed_same m plan look) allowed) reads
+
+-- ---- from the first stage on
+
+pub told_columns : (m : Meaning) (plan : Plan) (atoms : List PlanAtom) (rows : ℕ) (answers : List (List Three)) → atoms ≡ atoms_of plan → m.rows ≡ rows → answers ≡ columns m.rows m.answer atoms → answers ≡ columns rows m.answer (atoms_of plan)
+told_columns m plan atoms rows answers all long is = is ∙ ap (columns m.rows m.answer) all ∙ ap (λ n. columns n m.answer (atoms_of plan)) long
+
+pub told_whole : (m : Meaning) (plan : Plan) (rows : ℕ) (whole : List Three) → m.rows ≡ rows → whole ≡ each_row rows (whole_at m plan) → whole ≡ each_row m.rows (whole_at m plan)
+told_whole m plan rows whole long is = is ∙ ap (λ n. each_row n (whole_at m plan)) (sym long)
+
+-- what the first stage read
+pub settled_reads : (m : Meaning) (plan : Plan) (atoms : List PlanAtom) (old new : Option (List Look)) (done : Type 0) → atoms ≡ atoms_of plan → AddsLooks old new (is_free_of m atoms) m.is_bitmap (flat_map m.fetched atoms) done → AddsLooks old new (is_free_in m plan) m.is_bitmap (bitmaps_in m plan) done
+settled_reads m plan atoms old new done all reads = subst (λ l. AddsLooks old new (is_free_of m l) m.is_bitmap (flat_map m.fetched l) done) all reads
+
+free_allowed : (m : Meaning) (plan : Plan) (look : Look) → IsTrue (is_free_in m plan look) → IsTrue (is_allowed_in m plan look)
+free_allowed m plan look free =
+    any_weaker (λ atom. m.is_free atom look) (λ atom. is_allowed_on m atom (candidates m.rows m.answer plan atom) look)
+    (λ atom is. first_holds (m.is_free atom look) (m.covers atom (candidates m.rows m.answer plan atom) look) is) (atoms_of plan) free
+
+pub allowed_reads : (m : Meaning) (plan : Plan) (atoms : List PlanAtom) (old new : Option (List Look)) (done : Type 0) → atoms ≡ atoms_of plan → AddsLooks old new (is_free_of m atoms) m.is_bitmap (flat_map m.fetched atoms) done → AddsLooks old new (is_allowed_in m plan) m.is_bitmap (bitmaps_in m plan) done
+allowed_reads m plan atoms old new done all reads =
+    adds_weaker old new (is_free_in m plan) (is_allowed_in m plan) m.is_bitmap (bitmaps_in m plan) done (free_allowed m plan) (settled_reads m plan atoms old new done all reads)
+
+-- and what both stages read
+pub evaluated_reads : (m : Meaning) (plan : Plan) (atoms : List PlanAtom) (old mid new : Option (List Look)) (done more : Type 0) → atoms ≡ atoms_of plan → done → AddsLooks old mid (is_free_of m atoms) m.is_bitmap (flat_map m.fetched atoms) done → AddsLooks mid new (is_allowed_in m plan) m.is_bitmap [] more → AddsLooks old new (is_allowed_in m plan) m.is_bitmap (bitmaps_in m plan) more
+evaluated_reads m plan atoms old mid new done more all is first second =
+    subst (λ l. AddsLooks old new (is_allowed_in m plan) m.is_bitmap l more) (append-nil (bitmaps_in m plan))
+    (adds_joined old mid new (is_allowed_in m plan) m.is_bitmap (bitmaps_in m plan) [] done more is (allowed_reads m plan atoms old mid done all first) second)
+
+-- a call that was refused before it read
+pub none_read : (m : Meaning) (allowed : Look → Bool) (bitmaps : List Look) (old : Option (List Look)) (more : Type 0) → (more → ⊥) → AddsLooks old old allowed m.is_bitmap bitmaps more
+none_read m allowed bitmaps old more not_done = adds_front old old allowed m.is_bitmap [] bitmaps (Unit {0}) more not_done (adds_none old old allowed m.is_bitmap (Unit {0}) refl)

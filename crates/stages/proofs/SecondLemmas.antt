@@ -1,6 +1,6 @@
 -- The second stage, condition by condition.
-use Rattle.std.proofs.Common.{◌≡◌, ℕ, zero, suc, ◌+◌, ◌*◌, ◌<◌, ◌≤◌, Bool, true, false, IsTrue, List, [], ◌∷◌, ◌++◌, Option, Some, None, All, length, map, take, get_or, refl, sym, ap, subst, ◌∙◌, arith, length-append}
-use Rattle.std.specs.Prelude.{slice_get}
+use Rattle.std.proofs.Common.{◌≡◌, ℕ, zero, suc, ◌+◌, ◌*◌, ◌<◌, ◌^◌, ◌≤◌, Bool, true, false, IsTrue, List, [], ◌∷◌, ◌++◌, Option, Some, None, All, length, map, take, get_or, refl, sym, ap, subst, ◌∙◌, arith, length-append, inl, inr}
+use Rattle.std.specs.Prelude.{◌⊎◌, slice_get}
 use Rattle.std.specs.List.{count_by, list_any, range_with_len, sum_by}
 use Rattle.std.proofs.lemmas.List.FromFn.{get_or-map-range_with_len}
 use Rattle.std.proofs.lemmas.List.{length-map}
@@ -16,6 +16,7 @@ use Rattle.wah_logic.proofs.JoinLemmas.{length-each}
 use Rattle.three_valued.specs.Rows.{columns, each_row}
 use Rattle.three_valued.specs.Tables.{is_unknown}
 use Rattle.stages.specs.Answer.{AreUnknown, is_allowed_on, met_of}
+use Rattle.stages.specs.Faults.{IsOneOf}
 use Rattle.stages.specs.Looks.{AddsLooks}
 use Rattle.stages.specs.Meaning.{Meaning}
 use Rattle.stages.specs.Second.{candidates_in, candidates_of, exact_of, exact_on, settled_of}
@@ -37,21 +38,25 @@ pub record Decided (means : Meaning → Type 0) (rows : ℕ) (unknown : List Boo
   pub counted : (m : Meaning) → means m → checked ≡ sum_by (λ atom. ones (candidates_of m unknown atom)) (take place atoms)
   pub reads : (m : Meaning) → means m → AddsLooks old new (is_allowed_of m unknown atoms) m.is_bitmap [] (Unit {0})
 
-pub none_decided : (means : Meaning → Type 0) (rows : ℕ) (unknown : List Bool) (atoms : List PlanAtom) (old : Option (List Look)) (before : ℕ) → Decided means rows unknown atoms old before 0 [] 0 old before
-none_decided means rows unknown atoms old before = record {
-  number = refl;
-  long = All-from_recursion (λ a. length a ≡ rows) [] tt;
+pub none_decided : (means : Meaning → Type 0) (rows : ℕ) (unknown : List Bool) (atoms : List PlanAtom) (old : Option (List Look)) (before : ℕ) (answers : List (List Three)) → answers ≡ [] → Decided means rows unknown atoms old before 0 answers 0 old before
+none_decided means rows unknown atoms old before answers none = record {
+  number = ap length none;
+  long = subst (All (λ a. length a ≡ rows)) (sym none) (All-from_recursion (λ a. length a ≡ rows) [] tt);
   few = omega arith;
   steps = omega arith;
-  answered = λ m is. refl;
+  answered = λ m is. none;
   counted = λ m is. refl;
   reads = λ m is. adds_none old old (is_allowed_of m unknown atoms) m.is_bitmap (Unit {0}) refl;
 }
 
+pub candidates_long : (rows : ℕ) (answers : List Three) (unknown v : List Bool) → length answers ≡ rows → length unknown ≡ rows → v ≡ candidates_in answers unknown → length v ≡ rows
+candidates_long rows answers unknown v h k e =
+    let long = length-map answers is_unknown in
+    ap length e ∙ length-each and (map is_unknown answers) unknown (long ∙ h ∙ sym k) ∙ long ∙ h
+
 pub ones_few : (answers : List Three) (unknown : List Bool) (rows : ℕ) → length answers ≡ rows → length unknown ≡ rows → ones (candidates_in answers unknown) ≤ rows
 ones_few answers unknown rows h k =
-    let long = length-map answers is_unknown in
-    let all : length (candidates_in answers unknown) ≡ rows = length-each and (map is_unknown answers) unknown (long ∙ h ∙ sym k) ∙ long ∙ h in
+    let all = candidates_long rows answers unknown (candidates_in answers unknown) h k refl in
     let some = count_by-le-length (λ b. b) (candidates_in answers unknown) in
     omega (arith, all, some)
 
@@ -93,11 +98,26 @@ one_decided means rows unknown atoms old before place answers checked mid new th
         adds_weaker a b (is_allowed_on m atom (rows_of (candidates_in settled unknown))) (is_allowed_of m unknown atoms) m.is_bitmap [] done
         (λ look free. any_at (λ x. is_allowed_on m x (rows_of (candidates_of m unknown x)) look) atoms place atom at (subst (λ s. IsTrue (is_allowed_on m atom (rows_of (candidates_in s unknown)) look)) is free)) k
 
+-- the same of the list that has them
+pub kept_decided : (means : Meaning → Type 0) (rows : ℕ) (unknown : List Bool) (atoms : List PlanAtom) (old : Option (List Look)) (before : ℕ) (place : ℕ) (all answers : List (List Three)) (checked : ℕ) (new : Option (List Look)) (now : ℕ) → all ≡ answers → Decided means rows unknown atoms old before place answers checked new now → Decided means rows unknown atoms old before place all checked new now
+kept_decided means rows unknown atoms old before place all answers checked new now e h = subst (λ l. Decided means rows unknown atoms old before place l checked new now) (sym e) h
+
+-- the sum of checks is a number of 64 bits
+pub few_checks : (place many checked made some rows : ℕ) → checked ≤ 4194304 * place → made ≡ some → some ≤ rows → rows ≤ 4194304 → many < 2 ^ 32 → place < many → checked + made < 2 ^ 64
+few_checks place many checked made some rows h e k l m n = omega (arith, h, e, k, l, m, n)
+
 -- what a condition that was settled is
 pub settled_at : (m : Meaning) (atoms : List PlanAtom) (place : ℕ) (atom : PlanAtom) (answers : List (List Three)) (d : List Three) → answers ≡ columns m.rows m.answer atoms → slice_get atoms place ≡ Some atom → get_or answers place d ≡ settled_of m atom
 settled_at m atoms place atom answers d is at = ap (λ l. get_or l place d) is ∙ map_at (settled_of m) atoms place atom d at
 
+pub settled_here : (answers : List (List Three)) (m : Meaning) (atoms : List PlanAtom) (place : ℕ) (atom : PlanAtom) (settled : List Three) → answers ≡ columns m.rows m.answer atoms → slice_get atoms place ≡ Some atom → settled ≡ get_or answers place settled → settled ≡ settled_of m atom
+settled_here answers m atoms place atom settled is at here = here ∙ settled_at m atoms place atom answers settled is at
+
 -- ---- where a call is refused
+
+pub stopped : (memory : Type 0) (stops : PlanAtom → Type 0) (atoms : List PlanAtom) (place : ℕ) (atom : PlanAtom) → slice_get atoms place ≡ Some atom → memory ⊎ stops atom → memory ⊎ IsOneOf atoms stops
+stopped memory stops atoms place atom at (inl full) = inl full
+stopped memory stops atoms place atom at (inr is) = inr (record { place = place; atom = atom; there = at; is = is })
 
 pub refused_reads : (means : Meaning → Type 0) (rows : ℕ) (unknown : List Bool) (atoms : List PlanAtom) (old : Option (List Look)) (before : ℕ) (place : ℕ) (answers : List (List Three)) (checked : ℕ) (mid new : Option (List Look)) (then_ : ℕ) (atom : PlanAtom) (settled : List Three) (done : Type 0)
     → Decided means rows unknown atoms old before place answers checked mid then_

@@ -11,25 +11,25 @@ pub gather-gather_all-requires : goal.gather-gather_all-requires
 gather-gather_all-requires t c =
     let group = or_group c.args.plan.now c.in-Or.parts c.as_slice.result.now c.in-Or.is c.as_slice.ensures in
     let less : 2 * parts_in c.as_slice.result.now < t = omega (arith, group.size) in
-    less
+    (less, tt)
 
 pub gather-gather_all-requires-in-Xor : goal.gather-gather_all-requires-in-Xor
 gather-gather_all-requires-in-Xor t c =
     let group = xor_group c.args.plan.now c.in-Xor.parts c.as_slice-in-Xor.result.now c.in-Xor.is c.as_slice-in-Xor.ensures in
     let less : 2 * parts_in c.as_slice-in-Xor.result.now < t = omega (arith, group.size) in
-    less
+    (less, tt)
 
 pub gather-gather_all-requires-in-And : goal.gather-gather_all-requires-in-And
 gather-gather_all-requires-in-And t c =
     let group = and_group c.args.plan.now c.in-And.parts c.as_slice-in-And.result.now c.in-And.is c.as_slice-in-And.ensures in
     let less : 2 * parts_in c.as_slice-in-And.result.now < t = omega (arith, group.size) in
-    less
+    (less, tt)
 
 pub gather-gather-requires : goal.gather-gather-requires
 gather-gather-requires t c =
     let is = turned c.args.plan.now c.in-Not.part c.get.result.now c.in-Not.is c.get.ensures in
     let less : 2 * parts_of c.get.result.now + 1 < t = omega (arith, is.size) in
-    less
+    (less, tt)
 
 pub gather-returns-in-All : goal.gather-returns-in-All
 gather-returns-in-All t c =
@@ -69,4 +69,4 @@ gather_all-gather-requires t c =
     let part = c.part-item.result in
     let cons = rest_cons parts k part c.loop-part-test.true c.part-item.is in
     let less : 2 * parts_of part + 1 < t = omega (arith, size_from parts k, part_size (drop k parts) part (drop (k + 1) parts) cons) in
-    less
+    (less, tt)

@@ -189,7 +189,8 @@ fn hits_of<S: Store, C: Conditions, L: Ledger>(
     let held = answers_of(alloc, plan, conditions.rows(), &stage.answers, steps)?;
     let whole = held.get();
     let unknown = whole.unknown_rows(alloc, steps)?;
-    if count_ones(&unknown, steps) == 0 {
+    let left = count_ones(&unknown, steps);
+    if left == 0 {
         let rows = whole.definite().copy(alloc, steps)?;
         return Ok(Hits { rows, checked: 0 });
     }

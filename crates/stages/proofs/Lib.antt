@@ -5,3 +5,4 @@ pub mod FirstLemmas
 pub mod SecondLemmas
 pub mod PlanRows
 pub mod StepLemmas
+pub mod SheetLemmas

@@ -1,5 +1,6 @@
 ghost use Rattle.std.specs.Prelude.{◌≡◌, ◌<◌, ◌≤◌, ◌≤ℤ◌, ⊤, ℕ, All, IfOk, List, [], Some, length, slice_get};
 ghost use Rattle.std.specs.List.{AllByRecursion};
+ghost use Rattle.binning.specs.Spans.{IsInRange};
 ghost use Rattle.wah_words.specs.Limits.{most_bits};
 ghost use Rattle.where_plan.specs.declared.plan.PlanAtom.{PlanAtom};
 ghost use Rattle.where_plan.specs.Plans.{place_in};
@@ -155,6 +156,8 @@ fn is_met(cell: &Cell, spans: &Spans) -> bool {
 /// What is known of a condition with this span, cell by cell.
 fn known_of(alloc: Global, cells: &[Cell], range: Range) -> Result<Known, AllocError>
     requires few { length cells.now ≤ 30 }
+    requires least { IsInRange range.0 }
+    requires greatest { IsInRange range.1 }
     ensures { IfOk result (λ k. (length k.definite ≡ length cells.now) × (length k.unknown ≡ length cells.now) × (length k.truth ≡ length cells.now)) }
 {
     let spans = Spans::of(
@@ -223,7 +226,7 @@ const N: [Cell; 10] = [
 ];
 
 /// The conditions of the rows below: `3 < a < 9`, `a < 4`, `a < 9`, `b = 1`, and `a < 6` with nulls.
-fn sheet(alloc: Global) -> Result<Sheet, AllocError>
+fn five_conditions(alloc: Global) -> Result<Sheet, AllocError>
     ensures { IfOk result (λ s. length s.known.items ≡ 5) }
 {
     let between = known_of(alloc, &A, (4, 8))?;
@@ -280,7 +283,7 @@ fn numbers<L: Ledger>(
     requires fits { AllByRecursion (λ atom. place_in atom < 5) (atoms_of plan.now) }
 {
     let mut steps = Steps::<L>::new(blank);
-    let sheet = sheet(alloc)?;
+    let sheet = five_conditions(alloc)?;
     let mut store = MemStore::make(alloc, &[], 0)?;
     let Ok(bounds) = estimate(alloc, &mut store, &sheet, plan, &mut steps) else {
         return Ok(None);

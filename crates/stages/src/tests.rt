@@ -74,6 +74,7 @@ fn column_of(atom: &PlanAtom) -> usize
 
 impl Conditions for Sheet {
     type Column = Closed;
+
     type Fault = NoMemory;
 
     ghost fits = { λ s atom. place_in atom < length s.known.items };

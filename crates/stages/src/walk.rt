@@ -194,7 +194,9 @@ fn hits_of<S: Store, C: Conditions, L: Ledger>(
         let rows = whole.definite().copy(alloc, steps)?;
         return Ok(Hits { rows, checked: 0 });
     }
-    second_stage(alloc, store, conditions, plan, atoms, stage, whole, &unknown, steps)
+    second_stage(
+        alloc, store, conditions, plan, atoms, stage, whole, &unknown, steps,
+    )
 }
 
 /// The rows on which a plan is true. Values are read only of a condition's candidates, and only where the conditions' first

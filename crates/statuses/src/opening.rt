@@ -15,11 +15,7 @@ use part_meta::catalog_of;
 use std::alloc::Global;
 
 /// The dataset at the path; refused where there is none, or where its catalog or a part's text is damaged.
-pub fn opened<S: Store>(
-    alloc: Global,
-    store: &mut S,
-    dir: &FileName,
-) -> Result<Dataset, Unanswered>
+pub fn opened<S: Store>(alloc: Global, store: &mut S, dir: &FileName) -> Result<Dataset, Unanswered>
     requires path { IsPath dir.now }
     ensures cause { HasCause (S.faults store.old) (S.faults store.new) (IsErrOf result Unanswered.StoreFault) }
     ensures files { SameFiles (S.files store.old) (S.files store.new) }

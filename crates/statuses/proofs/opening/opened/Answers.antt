@@ -1,4 +1,4 @@
-use Rattle.std.proofs.Common.{refl, ap}
+use Rattle.std.proofs.Common.{refl}
 use Rattle.dataset.specs.Found.{Broken, There}
 use Rattle.statuses.proofs.opening.opened.Goals as goal
 

@@ -22,7 +22,7 @@ use Rattle.binning.proofs.ColumnLemmas.{length-cells}
 use Rattle.binning.proofs.KeyLemmas.{kept_of}
 use Rattle.dataset.specs.PartColumns.{IsOpened, OpensColumn, column_at, mask_file}
 use Rattle.dataset.specs.declared.fault.PartFault.{PartFault}
-use Rattle.dataset.specs.declared.fault.PartFault.TheVariants as part
+use Rattle.dataset.specs.declared.fault.PartFault.TheVariants as unopened
 use Rattle.dataset.specs.declared.content.Dataset.{Dataset}
 use Rattle.binning.specs.Encodings.{vectors}
 use Rattle.binning.specs.Members.{bitmaps_of}
@@ -162,11 +162,11 @@ pub unopened_answers : (files : Option Files) (m : Files) (dataset : Dataset) (p
     (encoding : EncodingSpec) (n : ℕ) (fault : PartFault) → part.rows ≤ 4194304 → files ≡ Some m
     → IfSome files (λ told. OpensColumn told dataset part column (Err fault)) → HasRows m dataset.dir part column mask numbers
     → AnswersOver encoding n (Err (fault_of_part fault))
-unopened_answers files m dataset part column mask numbers encoding n (part.Damaged file kind want have) few told h has =
-    let found = subst (λ (o : Option Files). IfSome o (λ told. OpensColumn told dataset part column (Err (part.Damaged file kind want have)))) told h in
+unopened_answers files m dataset part column mask numbers encoding n (unopened.Damaged file kind want have) few told h has =
+    let found = subst (λ (o : Option Files). IfSome o (λ told. OpensColumn told dataset part column (Err (unopened.Damaged file kind want have)))) told h in
     let bad : Ok mask ≡ Err found.0 = sym (rows_open m dataset part column mask numbers few has) ∙ found.1 in absurd (cc)
-unopened_answers files m dataset part column mask numbers encoding n part.Store few told h has = tt
-unopened_answers files m dataset part column mask numbers encoding n part.OutOfMemory few told h has = tt
+unopened_answers files m dataset part column mask numbers encoding n unopened.Store few told h has = tt
+unopened_answers files m dataset part column mask numbers encoding n unopened.OutOfMemory few told h has = tt
 
 pub opened_mask : (files : Option Files) (m : Files) (dataset : Dataset) (part : PartMeta) (column : Column) (mask : List Bool) (numbers : List ℤ)
     (opened : ColumnRef) → part.rows ≤ 4194304 → files ≡ Some m → IfSome files (λ told. OpensColumn told dataset part column (Ok opened))

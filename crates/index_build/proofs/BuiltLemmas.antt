@@ -74,27 +74,28 @@ module _ (old new : Option Files) (world : World) (dir : List ℕ) (part : Parti
   abbrev cells : List Cell
   cells = column_cells col part.records
 
-  abbrev Leaves : Result Built BuildFault → List Bool → List ℤ → Type 0
-  Leaves r mask numbers =
-      LeavesIndex spec.encoding (bin_count spec mask numbers) (index_name dir part.number column.name) (index_of spec mask numbers) r old new
+  abbrev Leaves : ℕ → Result Built BuildFault → List Bool → List ℤ → Type 0
+  Leaves number r mask numbers =
+      LeavesIndex spec.encoding (bin_count spec mask numbers) (index_name dir number column.name) (index_of spec mask numbers) r old new
 
   can : HasBitmaps spec column.ty cells → IsBuild world dir part col column spec
   can bitmaps = record { of = of; width = some; given = given; bitmaps = bitmaps }
 
-  by_answer : (r : Result Built BuildFault) → Leaves r (map is_present cells) (stored_numbers column.ty cells)
+  by_answer : (r : Result Built BuildFault) → Leaves part.number r (map is_present cells) (stored_numbers column.ty cells)
       → StandsAfter r new world (after_one world (Builds dir part.number col spec))
   by_answer (Ok built) put = stands_done old new world dir part col column spec (can put.1) h put.0
   by_answer (Err fault) (inl same) = inl (subst (λ (told : Option Files). StandsFor told world) (sym same) h)
   by_answer (Err fault) (inr put) = inr (stands_done old new world dir part col column spec (can put.1) h put.0)
 
   pub stands_after : (r : Result Built BuildFault) (meta : PartMeta) (schema : List Column) → meta ≡ part_data schema part
-      → ((m : Files) (mask : List Bool) (numbers : List ℤ) → old ≡ Some m → HasRows m dir meta column mask numbers → Leaves r mask numbers)
+      → ((m : Files) (mask : List Bool) (numbers : List ℤ) → old ≡ Some m → HasRows m dir meta column mask numbers → Leaves meta.number r mask numbers)
       → StandsAfter r new world (after_one world (Builds dir part.number col spec))
   stands_after r meta schema is leaves = by_answer r (found old refl)
     where
-      found : (told : Option Files) → old ≡ told → Leaves r (map is_present cells) (stored_numbers column.ty cells)
+      found : (told : Option Files) → old ≡ told → Leaves part.number r (map is_present cells) (stored_numbers column.ty cells)
       found None at = absurd (subst (λ (o : Option Files). StandsFor o world) at h)
       found (Some m) at =
-          leaves m (map is_present cells) (stored_numbers column.ty cells) at
+          subst (λ (p : PartMeta). Leaves p.number r (map is_present cells) (stored_numbers column.ty cells)) is
+          (leaves m (map is_present cells) (stored_numbers column.ty cells) at
           (subst (λ (p : PartMeta). HasRows m dir p column (map is_present cells) (stored_numbers column.ty cells)) (sym is)
-          (rows_in_world m world dir part col column schema (subst (λ (o : Option Files). StandsFor o world) at h) of some))
+          (rows_in_world m world dir part col column schema (subst (λ (o : Option Files). StandsFor o world) at h) of some)))

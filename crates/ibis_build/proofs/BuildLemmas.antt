@@ -104,7 +104,7 @@ module _ (dir : List ℕ) (spec : Spec) (world : World) (content : Content) (pla
       ap tasks (split-at cols k col at) ∙ map-append _ (take k cols) (col ∷ drop (k + 1) cols)
       ∙ sym (append_assoc (tasks (take k cols)) (tasks (col ∷ [])) (tasks (drop (k + 1) cols))) in
       subst (λ (ts : List Task). LeavesTasks {A = Unit {0}} dir spec world ts (Err stop) new) (sym cut)
-      (leaves-more {A = Unit {0}} {B = Unit {0}} dir spec world (tasks (take k cols)) (tasks (col ∷ [])) (tasks (drop (k + 1) cols)) mid new stop before last)
+      (leaves-more (Unit {0}) (Unit {0}) dir spec world (tasks (take k cols)) (tasks (col ∷ [])) (tasks (drop (k + 1) cols)) mid new stop before last)
 
 module _ (dir : List ℕ) (spec : Spec) (world : World) (content : Content) (p : Partition) (schema : List Column) (part : PartMeta)
     (cols : List ℕ) (k : ℕ) (mid new : Option Files) (there : content_at world dir ≡ Some content)
@@ -137,7 +137,7 @@ module _ (dir : List ℕ) (spec : Spec) (world : World) (content : Content) (p :
       ap all (split-at content.parts k p listed) ∙ flat_map-append _ (take k content.parts) (p ∷ drop (k + 1) content.parts)
       ∙ sym (append_assoc (all (take k content.parts)) here (all (drop (k + 1) content.parts))) in
       subst (λ (ts : List Task). LeavesTasks {A = Unit {0}} dir spec world ts (Err stop) new) (sym cut)
-      (leaves-more {A = Unit {0}} {B = Unit {0}} dir spec world (all (take k content.parts)) here (all (drop (k + 1) content.parts)) mid new stop before last)
+      (leaves-more (Unit {0}) (Unit {0}) dir spec world (all (take k content.parts)) here (all (drop (k + 1) content.parts)) mid new stop before last)
 
 -- ---- what is asked
 
@@ -354,22 +354,22 @@ module _ (dir text : List ℕ) (list : Option (List ℕ)) (old : Option Files) (
           (subst (λ (a : Asked). HasIndexes mid dataset' a new) alike (subst (λ (d : Dataset). HasIndexes mid d asked new) is h))
 
   module _ (mid new : Option Files) (same : mid ≡ old) (world : World) (h : StandsFor old world) where
-    here : There dataset ≡ found_in world dir
-    here = by old refl h told
+    path-has : There dataset ≡ found_in world dir
+    path-has = by old refl h told
       where
         by : (o : Option Files) → old ≡ o → StandsFor o world → IfSome o (λ m. IsFound m dir (There dataset)) → There dataset ≡ found_in world dir
         by None e k t = absurd k
         by (Some m) e k t = found_is m world dir (There dataset) k path t
 
     found : IsIn world dir dataset
-    found = is_in world dir dataset here
+    found = is_in world dir dataset path-has
 
-    abbrev tasks : List Task
-    tasks = tasks_in spec found.content.schema cols found.content.parts
+    abbrev wanted : List Task
+    wanted = tasks_in spec found.content.schema cols found.content.parts
 
-    outcome : build_outcome dir text list world ≡ outcome_of_tasks dir spec tasks
+    outcome : build_outcome dir text list world ≡ outcome_of_tasks dir spec wanted
     outcome =
-        ap (λ (f : Found). outcome_by dir (asked_of dir text list f) (content_at world dir)) (sym here)
+        ap (λ (f : Found). outcome_by dir (asked_of dir text list f) (content_at world dir)) (sym path-has)
         ∙ ap (λ (r : Result Asked Status). outcome_by dir r (content_at world dir)) asks
         ∙ ap (outcome_by dir (Ok asked)) found.there
 
@@ -378,9 +378,9 @@ module _ (dir text : List ℕ) (list : Option (List ℕ)) (old : Option Files) (
         (w : World) (content : Content) → StandsFor mid w → content_at w dataset.dir ≡ Some content → dataset ≡ dataset_in dataset.dir content
         → LeavesTasks dataset.dir spec w (tasks_in spec content.schema cols content.parts) r new
 
-    left : {A : Type 0} (r : Result A Unanswered) → Whole A r → LeavesTasks dir spec world tasks r new
+    left : {A : Type 0} (r : Result A Unanswered) → Whole A r → LeavesTasks dir spec world wanted r new
     left r step =
-        subst (λ (d : List ℕ). LeavesTasks d spec world tasks r new) at
+        subst (λ (d : List ℕ). LeavesTasks d spec world wanted r new) at
         (step world found.content (subst (λ (o : Option Files). StandsFor o world) (sym same) h)
         (ap (content_at world) at ∙ found.there) (found.is ∙ ap (λ (d : List ℕ). dataset_in d found.content) (sym at)))
 
@@ -388,18 +388,18 @@ module _ (dir text : List ℕ) (list : Option (List ℕ)) (old : Option Files) (
         → LeavesBuilt (build_outcome dir text list world) world (Ok count) new
     build-done {A = A} r done count ok e step =
         let parts : length dataset.parts ≡ length found.content.parts = ap (λ (d : Dataset). length d.parts) found.is ∙ length-map found.content.parts _ in
-        let size : count ≡ length tasks =
+        let size : count ≡ length wanted =
         e ∙ ap (λ (n : ℕ). n * length cols) parts ∙ sym (tasks-count spec found.content.schema cols found.content.parts) in
         subst (λ (o : Outcome). LeavesBuilt o world (Ok count) new) (sym outcome)
-        (built-done dir spec world tasks done count new
-        (subst (λ (x : Result A Unanswered). LeavesTasks dir spec world tasks x new) ok (left r step)) size)
+        (built-done dir spec world wanted done count new
+        (subst (λ (x : Result A Unanswered). LeavesTasks dir spec world wanted x new) ok (left r step)) size)
 
     pub build-cut : {A : Type 0} (r : Result A Unanswered) (stop : Unanswered) → r ≡ Err stop → Whole A r
         → LeavesBuilt (build_outcome dir text list world) world (Err stop) new
     build-cut {A = A} r stop err step =
         subst (λ (o : Outcome). LeavesBuilt o world (Err stop) new) (sym outcome)
-        (built-stopped {A = A} dir spec world tasks stop new
-        (subst (λ (x : Result A Unanswered). LeavesTasks dir spec world tasks x new) err (left r step)))
+        (built-stopped A dir spec world wanted stop new
+        (subst (λ (x : Result A Unanswered). LeavesTasks dir spec world wanted x new) err (left r step)))
 
 -- ---- the parts of a dataset
 

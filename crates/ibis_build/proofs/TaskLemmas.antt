@@ -99,11 +99,11 @@ with-more dir spec world front more mid files h k =
     }
 
 -- what a step leaves, behind those before it and with others to come
-pub leaves-more : {A B : Type 0} (dir : List ℕ) (spec : Spec) (world : World) (front more rest : List Task) (mid files : Option Files) (stop : Unanswered)
+pub leaves-more : (A B : Type 0) (dir : List ℕ) (spec : Spec) (world : World) (front more rest : List Task) (mid files : Option Files) (stop : Unanswered)
     → StandsWith dir spec world front mid
     → LeavesTasks {A = A} dir spec (after world (effects_of dir spec front)) more (Err stop) files
     → LeavesTasks {A = B} dir spec world (front ++ more ++ rest) (Err stop) files
-leaves-more dir spec world front more rest mid files (Refused status) h k =
+leaves-more A B dir spec world front more rest mid files (Refused status) h k =
     record {
       front = front ++ k.front;
       task = k.task;
@@ -117,7 +117,7 @@ leaves-more dir spec world front more rest mid files (Refused status) h k =
     joined : front ++ (k.front ++ k.task ∷ k.rest) ++ rest ≡ (front ++ k.front) ++ k.task ∷ (k.rest ++ rest)
     joined = append_assoc front (k.front ++ k.task ∷ k.rest) rest ∙ ap (λ (ts : List Task). front ++ ts) (append_assoc k.front (k.task ∷ k.rest) rest)
         ∙ sym (append_assoc front k.front (k.task ∷ (k.rest ++ rest)))
-leaves-more dir spec world front more rest mid files StoreFault h k =
+leaves-more A B dir spec world front more rest mid files StoreFault h k =
     record {
       front = front ++ k.front;
       rest = k.rest ++ rest;
@@ -128,7 +128,7 @@ leaves-more dir spec world front more rest mid files StoreFault h k =
     joined : front ++ (k.front ++ k.rest) ++ rest ≡ (front ++ k.front) ++ (k.rest ++ rest)
     joined = append_assoc front (k.front ++ k.rest) rest ∙ ap (λ (ts : List Task). front ++ ts) (append_assoc k.front k.rest rest)
         ∙ sym (append_assoc front k.front (k.rest ++ rest))
-leaves-more dir spec world front more rest mid files OutOfMemory h k =
+leaves-more A B dir spec world front more rest mid files OutOfMemory h k =
     record {
       front = front ++ k.front;
       rest = k.rest ++ rest;
@@ -184,12 +184,12 @@ built-done dir spec world tasks done count files h e =
     let is = ends_done dir spec tasks h.possible in
     subst (λ (o : Outcome). LeavesBuilt o world (Ok count) files) (sym is) (refl, e ∙ sym (length-map tasks _), h.stands)
 
-pub built-stopped : {A : Type 0} (dir : List ℕ) (spec : Spec) (world : World) (tasks : List Task) (stop : Unanswered) (files : Option Files)
+pub built-stopped : (A : Type 0) (dir : List ℕ) (spec : Spec) (world : World) (tasks : List Task) (stop : Unanswered) (files : Option Files)
     → LeavesTasks {A = A} dir spec world tasks (Err stop) files → LeavesBuilt (outcome_of_tasks dir spec tasks) world (Err stop) files
-built-stopped dir spec world tasks (Refused status) files h =
+built-stopped A dir spec world tasks (Refused status) files h =
     let is : outcome_of_tasks dir spec tasks
     ≡ record { status = bins_status spec.encoding h.task; text = line_of (bins_status spec.encoding h.task); effects = effects_of dir spec h.front } =
     ap (outcome_of_tasks dir spec) h.cut ∙ ends_refused dir spec h.front h.task h.rest h.built.possible h.impossible in
     subst (λ (o : Outcome). LeavesBuilt o world (Err (Refused status)) files) (sym is) (sym h.is, h.built.stands)
-built-stopped dir spec world tasks StoreFault files h = stopped-within dir spec world tasks files h
-built-stopped dir spec world tasks OutOfMemory files h = stopped-within dir spec world tasks files h
+built-stopped A dir spec world tasks StoreFault files h = stopped-within dir spec world tasks files h
+built-stopped A dir spec world tasks OutOfMemory files h = stopped-within dir spec world tasks files h

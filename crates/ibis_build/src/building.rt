@@ -1,6 +1,6 @@
 //! Indexes of the columns of a dataset, built one after another.
 
-ghost use Rattle.std.specs.Prelude.{◌≡◌, ◌*◌, ◌≤◌, [], ◌∷◌, ℕ, Ok, Some, All, IfErr, IfOk, IsErrOf, IsUtf8, OnOk, is_ok, length, slice_get, true};
+ghost use Rattle.std.specs.Prelude.{◌≡◌, ◌*◌, ◌≤◌, [], ◌∷◌, ℕ, Ok, Some, All, IfErr, IfOk, IsErrOf, IsUtf8, OnOk, is_ok, length, option_copied, slice_get, true};
 ghost use Rattle.fb_outside.specs.Causes.{HasCause};
 ghost use Rattle.fb_outside.specs.Files.{ChangesAmong};
 ghost use Rattle.fb_outside.specs.Names.{IsPath};
@@ -20,7 +20,7 @@ ghost use Rattle.ibis_build.specs.Looks.{IsBuildLook, IsLookAmong};
 use crate::columns::{bad_spec, chosen_columns};
 use dataset::Dataset;
 use fb_outside::{FileName, Store};
-use fb_types::Label;
+use fb_types::{Column, Label, Schema};
 use index_build::{BuildFault, build};
 use index_spec::{Spec, SpecFault, parse_spec};
 use part_meta::PartMeta;
@@ -177,13 +177,20 @@ fn build_column<S: Store, L: Ledger>(
         → content.schema ≡ dataset.now.schema → part.now ≡ part_data content.schema p
         → LeavesTasks dataset.now.dir spec.now world (part_tasks spec.now content.schema (col ∷ []) p) result (S.files store.new) }
 {
-    let Some(column) = dataset.schema.columns().get(col) else {
+    let Some(column) = column_at(&dataset.schema, col) else {
         unreachable!()
     };
     match build(alloc, store, dataset, part, column, spec, steps) {
         Ok(_) => Ok(()),
         Err(fault) => Err(stop_of_build(fault)),
     }
+}
+
+/// The column at a place of the schema.
+fn column_at<'a>(schema: &'a Schema, col: usize) -> Option<&'a Column>
+    ensures { option_copied result ≡ slice_get schema.now col }
+{
+    schema.columns().get(col)
 }
 
 /// The answer to an index that isn't built.

@@ -1,4 +1,4 @@
-use Rattle.std.proofs.Common.{◌≡◌, ◌≢◌, [], ◌∷◌, ℕ, List, Option, false, Some, Ok, Err, refl, sym, ap, ◌∙◌, rules}
+use Rattle.std.proofs.Common.{◌≡◌, ◌≢◌, [], ◌∷◌, ℕ, List, Option, false, Some, Ok, Err, refl, sym, ap, ◌∙◌}
 use Rattle.std.specs.List.{slice_get}
 use Rattle.std.specs.Option.{option_map_or}
 use Rattle.fb_outside.proofs.FileLemmas.{ChangesAmong-weaken}
@@ -15,7 +15,7 @@ use Rattle.ibis_build.proofs.building.build_column.Goals as goal
 
 pub returns-in-Ok-clause-reads : goal.returns-in-Ok-clause-reads
 returns-in-Ok-clause-reads g c =
-    let there : slice_get c.args.dataset.now.schema c.args.col ≡ Some c.in-Some.column.now = search rules in
+    let there : slice_get c.args.dataset.now.schema c.args.col ≡ Some c.in-Some.column.now = sym c.in-Some.ensures in
     AddsOnly-weaken (IsColumnLook c.args.dataset.now.dir c.in-Some.column.now.name) (IsLookAmong c.args.dataset.now (c.args.col ∷ [])) _ _
     (λ look w. record {
       column = c.in-Some.column.now;
@@ -25,7 +25,7 @@ returns-in-Ok-clause-reads g c =
 
 pub returns-in-Err-clause-reads : goal.returns-in-Err-clause-reads
 returns-in-Err-clause-reads g c =
-    let there : slice_get c.args.dataset.now.schema c.args.col ≡ Some c.in-Some.column.now = search rules in
+    let there : slice_get c.args.dataset.now.schema c.args.col ≡ Some c.in-Some.column.now = sym c.in-Some.ensures in
     AddsOnly-weaken (IsColumnLook c.args.dataset.now.dir c.in-Some.column.now.name) (IsLookAmong c.args.dataset.now (c.args.col ∷ [])) _ _
     (λ look w. record {
       column = c.in-Some.column.now;
@@ -35,7 +35,7 @@ returns-in-Err-clause-reads g c =
 
 pub returns-in-Ok-clause-kept : goal.returns-in-Ok-clause-kept
 returns-in-Ok-clause-kept g c =
-    let there : slice_get c.args.dataset.now.schema c.args.col ≡ Some c.in-Some.column.now = search rules in
+    let there : slice_get c.args.dataset.now.schema c.args.col ≡ Some c.in-Some.column.now = sym c.in-Some.ensures in
     ChangesAmong-weaken _ _
     (λ q e. record {
       column = c.in-Some.column.now;
@@ -45,7 +45,7 @@ returns-in-Ok-clause-kept g c =
 
 pub returns-in-Err-clause-kept : goal.returns-in-Err-clause-kept
 returns-in-Err-clause-kept g c =
-    let there : slice_get c.args.dataset.now.schema c.args.col ≡ Some c.in-Some.column.now = search rules in
+    let there : slice_get c.args.dataset.now.schema c.args.col ≡ Some c.in-Some.column.now = sym c.in-Some.ensures in
     ChangesAmong-weaken _ _
     (λ q e. record {
       column = c.in-Some.column.now;
@@ -55,13 +55,13 @@ returns-in-Err-clause-kept g c =
 
 pub returns-in-Ok-clause-puts : goal.returns-in-Ok-clause-puts
 returns-in-Ok-clause-puts g c =
-    let there : slice_get c.args.dataset.now.schema c.args.col ≡ Some c.in-Some.column.now = search rules in
+    let there : slice_get c.args.dataset.now.schema c.args.col ≡ Some c.in-Some.column.now = sym c.in-Some.ensures in
     put-one c.args.dataset.now c.requires.listed.0 c.args.part.now c.requires.listed.1 c.args.col c.in-Some.column.now there _ c.args.spec.now
     c.in-Ok.field-0 _ c.in-Ok.ensures.leaves
 
 pub returns-in-Ok-clause-stands : goal.returns-in-Ok-clause-stands
 returns-in-Ok-clause-stands g c =
-    let there : slice_get c.args.dataset.now.schema c.args.col ≡ Some c.in-Some.column.now = search rules in
+    let there : slice_get c.args.dataset.now.schema c.args.col ≡ Some c.in-Some.column.now = sym c.in-Some.ensures in
     λ world content place p h has listed same is.
     leaves-one _ _ world c.args.dataset.now.dir content place p c.args.col c.in-Some.column.now c.args.spec.now c.args.part.now h has listed
     (ap (λ (s : List Column). slice_get s c.args.col) same ∙ there)
@@ -70,14 +70,14 @@ returns-in-Ok-clause-stands g c =
 
 pub returns-in-Err-clause-stop : goal.returns-in-Err-clause-stop
 returns-in-Err-clause-stop g c =
-    let there : slice_get c.args.dataset.now.schema c.args.col ≡ Some c.in-Some.column.now = search rules in
+    let there : slice_get c.args.dataset.now.schema c.args.col ≡ Some c.in-Some.column.now = sym c.in-Some.ensures in
     rw c.stop_of_build.ensures
     (stop-built c.args.dataset.now c.requires.listed.0 c.args.part.now c.requires.listed.1 c.args.col c.in-Some.column.now there _ c.args.spec.now
     c.in-Err.fault c.in-Err.ensures.stop c.in-Err.ensures.answer)
 
 pub returns-in-Err-clause-stands : goal.returns-in-Err-clause-stands
 returns-in-Err-clause-stands g c =
-    let there : slice_get c.args.dataset.now.schema c.args.col ≡ Some c.in-Some.column.now = search rules in
+    let there : slice_get c.args.dataset.now.schema c.args.col ≡ Some c.in-Some.column.now = sym c.in-Some.ensures in
     λ world content place p h has listed same is.
     rw c.stop_of_build.ensures
     (leaves-one _ _ world c.args.dataset.now.dir content place p c.args.col c.in-Some.column.now c.args.spec.now c.args.part.now h has listed

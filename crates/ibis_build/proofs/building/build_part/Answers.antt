@@ -2,7 +2,7 @@ use Rattle.std.proofs.Common.{◌≡◌, ℕ, List, Some, take, sym, subst, ◌�
 use Rattle.std.specs.List.{slice_get}
 use Rattle.std.proofs.lemmas.List.{take_all}
 use Rattle.std.proofs.lemmas.Option.{slice_get-get_or}
-use Rattle.fb_outside.specs.Files.{Files}
+use Rattle.std.proofs.lemmas.Result.{err_from_is_err_and}
 use Rattle.fb_outside.proofs.FileLemmas.{ChangesAmong-trans, ChangesAmong-weaken}
 use Rattle.fb_outside.proofs.ReadLemmas.{AddsOnly-trans, AddsOnly-weaken}
 use Rattle.ibis_build.specs.Builds.{part_tasks}
@@ -38,12 +38,15 @@ loop-col-preserved g c =
 
 pub returns-clause-puts : goal.returns-clause-puts
 returns-clause-puts g c =
-    subst (λ (cs : List ℕ). HasPartIndexes _ c.args.dataset.now c.args.part.now (record { spec = c.args.spec.now; cols = cs }) _)
+    subst
+    (λ (cs : List ℕ). HasPartIndexes (g.S.Store.files c.args.store.now) c.args.dataset.now c.args.part.now (record { spec = c.args.spec.now; cols = cs })
+    (g.S.Store.files c.loop-col.store))
     (take_all c.loop-col.col-index c.args.cols.now (omega (arith, c.loop-col-test.false))) c.loop-col.invariant.puts
 
 pub returns-clause-stands : goal.returns-clause-stands
 returns-clause-stands g c = λ world content place p h there here same is.
-    subst (λ (cs : List ℕ). StandsWith c.args.dataset.now.dir c.args.spec.now world (part_tasks c.args.spec.now content.schema cs p) _)
+    subst (λ (cs : List ℕ). StandsWith c.args.dataset.now.dir c.args.spec.now world (part_tasks c.args.spec.now content.schema cs p)
+    (g.S.Store.files c.loop-col.store))
     (take_all c.loop-col.col-index c.args.cols.now (omega (arith, c.loop-col-test.false)))
     (c.loop-col.invariant.stands world content place p h there here same is)
 
@@ -65,17 +68,21 @@ returns-in_err-build_column-clause-reads g c =
 
 pub returns-in_err-build_column-clause-stop : goal.returns-in_err-build_column-clause-stop
 returns-in_err-build_column-clause-stop g c =
-    stop-was c.args.dataset.now c.requires.valid c.args.cols.now (record { spec = c.args.spec.now; cols = c.args.cols.now }) _ _ _
+    let p = err_from_is_err_and c.from_residual.result c.from_residual.ensures.1 in
+    rw (p.1, p.2)
+    (stop-was c.args.dataset.now c.requires.valid c.args.cols.now (record { spec = c.args.spec.now; cols = c.args.cols.now }) _ _ _
     (ChangesAmong-weaken _ _ (λ q. name-listed c.args.dataset.now c.args.cols.now c.requires.listed.0 c.args.part.now q c.requires.listed.1)
     c.loop-col.invariant.kept)
     (stop-one c.args.dataset.now c.args.cols.now c.loop-col.col-index _
     (slice_get-get_or c.args.cols.now c.loop-col.col-index 0 (omega (arith, c.loop-col-test.true))) _ c.args.spec.now _
-    c.in_err-build_column.ensures.stop)
+    c.in_err-build_column.ensures.stop))
 
 pub returns-in_err-build_column-clause-stands : goal.returns-in_err-build_column-clause-stands
 returns-in_err-build_column-clause-stands g c = λ world content place p h there here same is.
-    column-stops c.args.dataset.now.dir c.args.spec.now world content place p c.args.dataset.now.schema c.args.part.now c.args.cols.now
+    let q = err_from_is_err_and c.from_residual.result c.from_residual.ensures.1 in
+    rw (q.1, q.2)
+    (column-stops c.args.dataset.now.dir c.args.spec.now world content place p c.args.dataset.now.schema c.args.part.now c.args.cols.now
     c.loop-col.col-index _ _ _ there here same is
     (slice_get-get_or c.args.cols.now c.loop-col.col-index 0 (omega (arith, c.loop-col-test.true)))
     (c.loop-col.invariant.stands world content place p h there here same is) c.build_column.result _ c.in_err-build_column.was
-    c.build_column.ensures.stands
+    c.build_column.ensures.stands)

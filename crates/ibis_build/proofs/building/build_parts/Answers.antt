@@ -2,6 +2,7 @@ use Rattle.std.proofs.Common.{◌≡◌, ◌<◌, ◌+◌, ℕ, List, Some, take
 use Rattle.std.specs.List.{slice_get}
 use Rattle.std.proofs.lemmas.List.{length-map, take_all}
 use Rattle.std.proofs.lemmas.Option.{slice_get_read, slice_get_within}
+use Rattle.std.proofs.lemmas.Result.{err_from_is_err_and}
 use Rattle.fb_outside.proofs.FileLemmas.{ChangesAmong-trans, ChangesAmong-weaken}
 use Rattle.fb_outside.proofs.ReadLemmas.{AddsOnly-trans}
 use Rattle.world.specs.PartFiles.{part_data}
@@ -43,7 +44,8 @@ returns-clause-puts g c = λ place part listed.
 
 pub returns-clause-stands : goal.returns-clause-stands
 returns-clause-stands g c = λ world content h there is.
-    subst (λ (ps : List Partition). StandsWith c.args.dataset.now.dir c.args.spec.now world (tasks_in c.args.spec.now content.schema c.args.cols.now ps) _)
+    subst (λ (ps : List Partition). StandsWith c.args.dataset.now.dir c.args.spec.now world (tasks_in c.args.spec.now content.schema c.args.cols.now ps)
+    (g.S.Store.files c.loop-part.store))
     (take_all c.loop-part.part-index content.parts
     (let size = length-map content.parts (part_data content.schema) in
     let parts = ap (λ (d : Dataset). length d.parts) is in
@@ -64,8 +66,10 @@ returns-in_err-build_part-clause-reads g c = AddsOnly-trans _ _ _ _ c.loop-part.
 
 pub returns-in_err-build_part-clause-stop : goal.returns-in_err-build_part-clause-stop
 returns-in_err-build_part-clause-stop g c =
-    stop-was c.args.dataset.now c.requires.valid c.args.cols.now (record { spec = c.args.spec.now; cols = c.args.cols.now }) _ _ _
-    c.loop-part.invariant.kept c.in_err-build_part.ensures.stop
+    let p = err_from_is_err_and c.from_residual.result c.from_residual.ensures.1 in
+    rw (p.1, p.2)
+    (stop-was c.args.dataset.now c.requires.valid c.args.cols.now (record { spec = c.args.spec.now; cols = c.args.cols.now }) _ _ _
+    c.loop-part.invariant.kept c.in_err-build_part.ensures.stop)
 
 pub returns-in_err-build_part-clause-stands : goal.returns-in_err-build_part-clause-stands
 returns-in_err-build_part-clause-stands g c = λ world content h there is.
@@ -73,6 +77,8 @@ returns-in_err-build_part-clause-stands g c = λ world content h there is.
     part-in c.args.dataset.now content c.loop-part.part-index c.part-item.result is
     (part-at c.args.dataset.now _ c.loop-part.part-index c.part-item.result c.as_slice-part-items.ensures
     (omega (arith, c.loop-part-test.true)) c.part-item.is) in
-    part-stops c.args.dataset.now.dir c.args.spec.now world content p.from c.args.dataset.now.schema c.part-item.result c.args.cols.now
+    let q = err_from_is_err_and c.from_residual.result c.from_residual.ensures.1 in
+    rw (q.1, q.2)
+    (part-stops c.args.dataset.now.dir c.args.spec.now world content p.from c.args.dataset.now.schema c.part-item.result c.args.cols.now
     c.loop-part.part-index _ _ there p.at p.same p.is (c.loop-part.invariant.stands world content h there is) c.build_part.result _
-    c.in_err-build_part.was c.build_part.ensures.stands
+    c.in_err-build_part.was c.build_part.ensures.stands)

@@ -13,4 +13,4 @@ overflow_mul-result c =
     let listed = length-map parts (λ (p : PartMeta). p.number) in
     let few = c.requires.valid.catalog.few in
     let same = ap length c.as_slice-parts.ensures in
-    omega (arith, small (length parts) (length c.args.cols.now) (omega (arith, listed, few)) c.requires.few, same)
+    omega (arith, small (length c.as_slice-parts.result.now) (length c.args.cols.now) (omega (arith, listed, few, same)) c.requires.few)

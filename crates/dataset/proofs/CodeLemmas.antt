@@ -1,6 +1,6 @@
 -- The codes of a category's cells, and its words.
-use Rattle.std.proofs.Common.{◌≡◌, ◌<◌, ◌≤◌, ◌+◌, ◌-◌, ◌^◌, ℕ, ℤ, pos, ◌≤ℤ◌, Bool, true, false, cond, List, [], ◌∷◌, ◌++◌, Some, None, length, map, take, get_or, unwrap_or, refl, sym, ap, ◌∙◌, arith, rules, append-nil, length-append}
-use Rattle.std.specs.List.{filter_map, fold, list_any}
+use Rattle.std.proofs.Common.{◌≡◌, ◌<◌, ◌≤◌, ◌+◌, ◌^◌, ℕ, pos, Bool, true, false, cond, List, [], ◌∷◌, ◌++◌, Some, length, map, unwrap_or, refl, sym, ap, ◌∙◌, arith, rules, append-nil, length-append}
+use Rattle.std.specs.List.{filter_map, list_any}
 use Rattle.std.specs.Str.{bytes_eq}
 use Rattle.std.proofs.lemmas.List.Elements.{filter_map-append}
 use Rattle.std.proofs.lemmas.List.Sums.{fold-append}

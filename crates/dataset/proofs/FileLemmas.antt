@@ -1,16 +1,16 @@
 -- Files that are put one after another: those of the columns, and of the parts.
-use Rattle.std.proofs.Common.{◌≡◌, ◌<◌, ◌≤◌, ◌+◌, ◌*◌, ◌-◌, zero, suc, ℕ, List, [], ◌∷◌, ◌++◌, Option, Some, None, Result, Ok, Err, IsErrOf, OnOk, length, map, take, drop, get_or, refl, sym, ap, subst, ◌∙◌, arith, append_assoc, append-nil, length-take, zero-add, min, IsSome, slice_get}
+use Rattle.std.proofs.Common.{◌≡◌, ◌<◌, ◌≤◌, ◌+◌, ◌*◌, zero, suc, ℕ, List, [], ◌∷◌, ◌++◌, Option, Some, Result, Ok, Err, IsErrOf, OnOk, length, take, drop, get_or, refl, sym, ap, subst, ◌∙◌, arith, append_assoc, append-nil, length-take, zero-add, min, IsSome, slice_get}
 use Rattle.std.specs.FinMap.{empty}
 use Rattle.std.specs.List.{flat_map}
 use Rattle.std.proofs.lemmas.List.FromFn.{length-map-range_with_len, get_or-map-range_with_len}
 use Rattle.world.specs.Effects.{new_part, new_parts, part_count}
-use Rattle.std.proofs.lemmas.List.{take_min, take-append-drop, take_more, drop_more}
+use Rattle.std.proofs.lemmas.List.{take_min, take-append-drop, take_more}
 use Rattle.std.proofs.lemmas.List.Concat.{flat_map-append}
 use Rattle.fb_outside.specs.Files.{Files, SameFiles, Puts, PutLeaves}
-use Rattle.fb_outside.specs.Puts.{File, PutsAll, PutsFront, PutsInOrder}
+use Rattle.fb_outside.specs.Puts.{File, PutsFront, PutsInOrder}
 use Rattle.fb_outside.specs.declared.outside.Trouble.{Trouble}
 use Rattle.fb_outside.specs.declared.outside.Trouble.TheVariants as trouble
-use Rattle.fb_outside.proofs.PutLemmas.{PutsAll-one, PutsFront-one, PutsFront-none, PutsFront-more, PutsFront-append, PutsInOrder-then}
+use Rattle.fb_outside.proofs.PutLemmas.{PutsAll-one, PutsFront-one, PutsFront-none, PutsFront-more}
 use Rattle.fb_types.specs.declared.schemas.Column.{Column}
 use Rattle.column_file.specs.declared.fault.ColFault.{ColFault}
 use Rattle.column_file.specs.declared.fault.ColFault.TheVariants as col

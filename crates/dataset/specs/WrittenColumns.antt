@@ -13,7 +13,6 @@ use Rattle.part_meta.specs.declared.names.FileKind.{FileKind}
 use Rattle.part_meta.specs.FileNames.{file_name}
 use Rattle.text_column.specs.Words.{code_in, with_word}
 use Rattle.world.specs.World.{Partition}
-use Rattle.world.specs.Cells.{column_cells}
 use Rattle.part_meta.specs.PartText.{most_rows}
 
 -- the dataset's path, the part's number, the column, and its cells from the top

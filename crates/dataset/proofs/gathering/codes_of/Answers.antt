@@ -1,9 +1,8 @@
-use Rattle.std.proofs.Common.{◌≡◌, ◌<◌, ◌≤◌, ◌+◌, ◌^◌, ◌++◌, ◌∷◌, [], ℕ, ℤ, pos, List, All, length, map, take, arith, sym, subst, ap, ◌∙◌, refl, to_z, of_z}
+use Rattle.std.proofs.Common.{◌≡◌, ◌<◌, ◌≤◌, ◌+◌, ◌++◌, ◌∷◌, [], ℤ, pos, List, All, length, map, take, arith, sym, subst, ap, ◌∙◌, to_z, of_z}
 use Rattle.std.proofs.lemmas.Int.{to_z-of_z}
 use Rattle.std.specs.Int.{w128}
 use Rattle.std.proofs.lemmas.List.{take_all, take_more}
-use Rattle.std.proofs.lemmas.List.Elements.{All-push, All-nil}
-use Rattle.fb_types.specs.declared.cells.Cell.{Cell}
+use Rattle.std.proofs.lemmas.List.Elements.{All-push}
 use Rattle.fb_types.specs.declared.cells.Cell.TheVariants.{Null}
 use Rattle.fb_types.specs.declared.types.ColType.TheVariants.{Category}
 use Rattle.column_file.specs.Values.{ValueFits}

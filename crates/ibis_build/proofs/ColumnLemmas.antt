@@ -1,11 +1,12 @@
 -- The columns that are indexed: each can have an index and is one that is asked for, and a list is taken where it names such columns.
-use Rattle.std.proofs.Common.{◌≡◌, ◌≢◌, ◌+◌, ◌<◌, ◌≤◌, ◌==◌, ◌||◌, nat_lt, ℕ, zero, suc, Bool, true, false, cond, eqb, not, if◌then◌else◌, List, [], ◌∷◌, ◌++◌, length, map, get_or, Option, Some, None, option_map, IsSome, is_some, refl, sym, ap, subst, ◌∙◌, arith, append_assoc, append-nil}
+use Rattle.std.proofs.Common.{◌≡◌, ◌≢◌, ◌+◌, ◌<◌, ◌≤◌, ◌==◌, ◌||◌, nat_lt, ℕ, zero, suc, Bool, true, false, cond, eqb, not, if◌then◌else◌, List, [], ◌∷◌, ◌++◌, length, map, drop, get_or, Bor, Option, Some, None, option_map, IsSome, is_some, refl, sym, ap, subst, ◌∙◌, arith, append_assoc, append-nil}
 use Rattle.std.specs.List.{All, AllByRecursion, AllPairs, AllZip, IsDistinct, enumerate_from, filter, list_any, position_or_len, slice_get}
 use Rattle.std.specs.Option.{option_and_then, option_map_or}
 use Rattle.std.specs.Prelude.{Result, Ok, Err}
 use Rattle.std.specs.Str.{bytes_eq}
 use Rattle.std.proofs.lemmas.Bool.Decides.{Decides-eqb, nat_tests}
-use Rattle.std.proofs.lemmas.List.{length-append, length-map}
+use Rattle.std.proofs.Math.ListN.{drop_of_length-le}
+use Rattle.std.proofs.lemmas.List.{drop_more, get_or-map, length-append, length-map}
 use Rattle.std.proofs.lemmas.List.Elements.{All-cons, All-nil, All-tail}
 use Rattle.std.proofs.lemmas.List.Quantifiers.{all_pairs_push, position-Some}
 use Rattle.std.proofs.lemmas.List.FromFn.{length-enumerate_from}
@@ -25,7 +26,9 @@ use Rattle.statuses.specs.declared.Status.{Status}
 use Rattle.statuses.specs.declared.Status.TheVariants.{BadSpec}
 use Rattle.index_spec.specs.declared.spec.SpecKind.TheVariants.{Repeated, WrongType}
 use Rattle.statuses.specs.Outcome.{◌>>=◌}
-use Rattle.ibis_build.specs.Causes.{IsAmong}
+use Rattle.statuses.specs.declared.stop.Unanswered.{Unanswered}
+use Rattle.statuses.specs.declared.stop.Unanswered.TheVariants.{Refused, StoreFault, OutOfMemory}
+use Rattle.ibis_build.specs.Causes.{IsAmong, RefusesBy}
 use Rattle.ibis_build.specs.Columns.{Lists, NamesColumn, can_have_index, can_have_index_at, chosen_columns, column_or_refusal, columns_behind, every_column, listed_columns, place_in}
 use Rattle.ibis_build.specs.Looks.{IsAskedName, IsListed}
 
@@ -88,6 +91,43 @@ behind-stop schema before piece pieces status e =
 behind-end : (schema : List Column) (before : List ℕ) → columns_behind schema before [] ≡ Ok before
 unfolding columns_behind
 behind-end schema before = refl
+
+-- ---- the pieces of a list, one after another
+
+abbrev bytes-of : List (Bor (List ℕ)) → List (List ℕ)
+bytes-of xs = map {B = List ℕ} (λ (p : Bor (List ℕ)). p.now) xs
+
+pieces-at : (xs : List (Bor (List ℕ))) (k : ℕ) (d : Bor (List ℕ)) → k < length xs
+    → drop k (bytes-of xs) ≡ (get_or xs k d).now ∷ drop (k + 1) (bytes-of xs)
+pieces-at xs k d less =
+    drop_more (bytes-of xs) k (get_or xs k d).now (omega (arith, less, length-map {B = List ℕ} xs (λ (p : Bor (List ℕ)). p.now)))
+    ∙ ap (λ (b : List ℕ). b ∷ drop (k + 1) (bytes-of xs)) (get_or-map (λ (p : Bor (List ℕ)). p.now) xs k d (get_or xs k d).now less)
+
+module _ (schema : List Column) (before : List ℕ) (xs : List (Bor (List ℕ))) (k : ℕ) (defined : Result (List ℕ) Status)
+    (so-far : defined ≡ columns_behind schema before (drop k (bytes-of xs))) where
+  -- the column of the next piece stands behind those before it
+  pub piece-taken : (d : Bor (List ℕ)) (col : ℕ) → k < length xs → column_or_refusal schema before (place_in schema (get_or xs k d).now) ≡ Ok col
+      → defined ≡ columns_behind schema (before ++ col ∷ []) (drop (k + 1) (bytes-of xs))
+  piece-taken d col less e =
+      so-far ∙ ap (columns_behind schema before) (pieces-at xs k d less)
+      ∙ behind-step schema before (get_or xs k d).now (drop (k + 1) (bytes-of xs)) col e
+
+  -- or it is the refusal
+  pub piece-refused : (d : Bor (List ℕ)) (stop : Unanswered) → k < length xs
+      → RefusesBy (column_or_refusal schema before (place_in schema (get_or xs k d).now)) stop → RefusesBy defined stop
+  piece-refused d (Refused status) less e =
+      so-far ∙ ap (columns_behind schema before) (pieces-at xs k d less)
+      ∙ behind-stop schema before (get_or xs k d).now (drop (k + 1) (bytes-of xs)) status e
+  piece-refused d StoreFault less e = e
+  piece-refused d OutOfMemory less e = tt
+
+  -- behind the last piece all are there
+  pub pieces-end : length xs ≤ k → defined ≡ Ok before
+  pieces-end past =
+      so-far
+      ∙ ap (columns_behind schema before)
+      (drop_of_length-le (bytes-of xs) (omega (arith, past, length-map {B = List ℕ} xs (λ (p : Bor (List ℕ)). p.now))))
+      ∙ behind-end schema before
 
 ok_same : (r : Result (List ℕ) Status) (a b : List ℕ) → r ≡ Ok a → r ≡ Ok b → a ≡ b
 ok_same r a b e h = cc

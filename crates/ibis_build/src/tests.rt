@@ -10,7 +10,7 @@ use std::marker::Brand;
 use std::process::Abort;
 use std::sync::ledger::Ledger;
 use std::test::Fail;
-use steps::{Blank, Steps};
+use steps::{Blank, Count, Steps};
 
 /// A dataset of two parts. Its column `a` has 7 and null, and then 4, 9 and 9; `c` has the words of codes 1 and 2, and
 /// then 1, none and 1; `b` are texts.

@@ -9,7 +9,7 @@ use std::marker::Brand;
 use std::process::Abort;
 use std::sync::ledger::Ledger;
 use std::test::Fail;
-use steps::{Blank, Steps};
+use steps::{Blank, Count, Steps};
 
 const FILES: &[(&str, &[u8])] = &[
     (

@@ -410,9 +410,10 @@ unfolding AreTaken
 all-taken schema before [] [] valid h apart = tt
 all-taken schema before [] (col ∷ cols) valid h apart = absurd h
 all-taken schema before (piece ∷ pieces) [] valid h apart = absurd h
-all-taken schema before (piece ∷ pieces) (col ∷ cols) valid h apart =
-    (column-taken schema before piece col valid h.0 (free-of before col free),
-    all-taken schema (before ++ col ∷ []) pieces cols valid h.1 (subst (AllPairs (λ (a b : ℕ). a ≢ b)) (sym (append_assoc before (col ∷ []) cols)) apart))
+all-taken schema before (piece ∷ pieces) (col ∷ cols) valid h apart = (
+  column-taken schema before piece col valid h.0 (free-of before col free),
+  all-taken schema (before ++ col ∷ []) pieces cols valid h.1 (subst (AllPairs (λ (a b : ℕ). a ≢ b)) (sym (append_assoc before (col ∷ []) cols)) apart),
+)
   where
     free : (k d : ℕ) → k < length before → get_or before k d ≢ col
     free k d within e =
@@ -439,9 +440,10 @@ apart-all x (y ∷ ys) h = (differ x y (x == y) refl (h 0 0 (omega arith)), apar
 distinct-of : (xs : List ℕ) → AllPairs (λ a b. a ≢ b) xs → IsDistinct eqb xs
 unfolding IsDistinct
 distinct-of [] h = tt
-distinct-of (x ∷ xs) h =
-    (apart-all x xs (λ k d within. h 0 (suc k) d (omega arith) (omega (arith, within))),
-    distinct-of xs (λ i j d less within. h (suc i) (suc j) d (omega (arith, less)) (omega (arith, within))))
+distinct-of (x ∷ xs) h = (
+  apart-all x xs (λ k d within. h 0 (suc k) d (omega arith) (omega (arith, within))),
+  distinct-of xs (λ i j d less within. h (suc i) (suc j) d (omega (arith, less)) (omega (arith, within))),
+)
 
 below-all : (n : ℕ) (xs : List ℕ) → All (λ x. x < n) xs → (q : ℕ) → list_any (eqb q) xs ≡ true → q < n
 below-all n [] h q e = absurd (cc)

@@ -9,4 +9,4 @@ mod laws;
 mod tests;
 
 pub use building::build_indexes;
-pub use laws::{the_columns_of_a_request, the_indexes_of_a_request, the_end_of_a_request};
+pub use laws::{the_columns_of_a_request, the_end_of_a_request, the_indexes_of_a_request};

@@ -64,11 +64,7 @@ fn path<R: Abort + AllocGlobal>(rt: &R, text: &str) -> FileName
 }
 
 /// A store of these files, in which some calls fail.
-fn store_of<R: Abort + AllocGlobal>(
-    rt: &R,
-    files: &[(&str, &[u8])],
-    fails: &[FailAt],
-) -> MemStore {
+fn store_of<R: Abort + AllocGlobal>(rt: &R, files: &[(&str, &[u8])], fails: &[FailAt]) -> MemStore {
     let Ok(mut store) = MemStore::make(rt.alloc(), fails, 100) else {
         rt.panic("out of memory")
     };
@@ -122,13 +118,49 @@ fn requests_are_answered(rt: HostRuntime) -> Result<(), Fail> {
     for (dir, spec, list, want, count) in [
         ("D", "<binning none/>", Some("\tC , a"), "done 4", 4),
         ("D", "<binning none/>", Some("c"), "done 2", 1),
-        ("D", "<binning none/>", Some("a,z"), "error 5 spec Unknown\n", 0),
-        ("D", "<binning none/>", Some("c,"), "error 5 spec Unknown\n", 0),
-        ("D", "<binning none/>", Some("c,C"), "error 5 spec Repeated\n", 0),
-        ("D", "<binning none/>", Some("c,b,c"), "error 5 spec WrongType\n", 0),
-        ("D", "<binning bounds=(3,3)/>", Some("z"), "error 5 spec Bounds\n", 0),
+        (
+            "D",
+            "<binning none/>",
+            Some("a,z"),
+            "error 5 spec Unknown\n",
+            0,
+        ),
+        (
+            "D",
+            "<binning none/>",
+            Some("c,"),
+            "error 5 spec Unknown\n",
+            0,
+        ),
+        (
+            "D",
+            "<binning none/>",
+            Some("c,C"),
+            "error 5 spec Repeated\n",
+            0,
+        ),
+        (
+            "D",
+            "<binning none/>",
+            Some("c,b,c"),
+            "error 5 spec WrongType\n",
+            0,
+        ),
+        (
+            "D",
+            "<binning bounds=(3,3)/>",
+            Some("z"),
+            "error 5 spec Bounds\n",
+            0,
+        ),
         ("E", "<binning odd/>", None, "error 5 spec Syntax\n", 0),
-        ("E", "<binning none/>", Some("z"), "error 7 missing E/-catalog.txt\n", 0),
+        (
+            "E",
+            "<binning none/>",
+            Some("z"),
+            "error 7 missing E/-catalog.txt\n",
+            0,
+        ),
     ] {
         let mut store = store_of(&rt, FILES, &[]);
         let have = answer::<_, Brand>(&rt, rt.blank(), &mut store, dir, spec, list)?;
@@ -143,7 +175,14 @@ fn requests_are_answered(rt: HostRuntime) -> Result<(), Fail> {
 #[test]
 fn every_column_but_a_text_is_indexed(rt: HostRuntime) -> Result<(), Fail> {
     let mut store = store_of(&rt, FILES, &[]);
-    let have = answer::<_, Brand>(&rt, rt.blank(), &mut store, "D", "<binning bounds=(4,8)/>", None)?;
+    let have = answer::<_, Brand>(
+        &rt,
+        rt.blank(),
+        &mut store,
+        "D",
+        "<binning bounds=(4,8)/>",
+        None,
+    )?;
     assert_eq!(rt; have.as_str(), "done 4");
     assert_eq!(rt; built(&rt, &store), 4);
     assert!(rt; store.file("D/p0000/b.idx").is_none());
@@ -153,8 +192,19 @@ fn every_column_but_a_text_is_indexed(rt: HostRuntime) -> Result<(), Fail> {
 #[test]
 fn a_damaged_column_leaves_the_indexes_before_it(rt: HostRuntime) -> Result<(), Fail> {
     let mut store = store_of(&rt, FILES, &[]);
-    assert!(rt; store.put(named(&rt, "D/p0002/c").as_str(), b"short").is_ok());
-    let have = answer::<_, Brand>(&rt, rt.blank(), &mut store, "D", "<binning none/>", Some("c,a"))?;
+    assert!(rt;
+        store
+            .put(named(&rt, "D/p0002/c").as_str(), b"short")
+            .is_ok()
+    );
+    let have = answer::<_, Brand>(
+        &rt,
+        rt.blank(),
+        &mut store,
+        "D",
+        "<binning none/>",
+        Some("c,a"),
+    )?;
     assert_eq!(rt; have.as_str(), "error 8 damaged D/p0002/c Length\n");
     assert_eq!(rt; built(&rt, &store), 2);
     Ok(())
@@ -171,7 +221,14 @@ fn each_call_of_the_store_fails_in_turn(rt: HostRuntime) -> Result<(), Fail> {
                 keep_new,
             }];
             let mut store = store_of(&rt, FILES, &fails);
-            let have = answer::<_, Brand>(&rt, rt.blank(), &mut store, "D", "<binning none/>", Some("c,a"))?;
+            let have = answer::<_, Brand>(
+                &rt,
+                rt.blank(),
+                &mut store,
+                "D",
+                "<binning none/>",
+                Some("c,a"),
+            )?;
             let count = built(&rt, &store);
             assert!(rt; before <= count);
             before = count;

@@ -10,6 +10,7 @@ pub mod GroupLemmas
 pub mod OrderLemmas
 pub mod PlaceRowsLemmas
 pub mod GatherLemmas
+pub mod ListedLemmas
 pub mod ColumnLemmas
 pub mod KeyOrderLemmas
 pub mod BinOrderLemmas

@@ -1,8 +1,7 @@
-//! The bins of a column, gathered block by block.
+//! Rows that are put into groups as they come.
 ghost use Rattle.std.specs.Prelude.{◌≡◌, ℤ, ◌+◌, ◌<◌, ◌≤◌, List, Option, Some, None, [], ◌∷◌, ◌++◌, if◌then◌else◌, length, map, IfOk, IfSome, OnOk};
 ghost use Rattle.std.specs.List.{AllByRecursion, range_with_len};
 ghost use Rattle.wah_words.specs.Limits.{most_bits};
-ghost use Rattle.wah_words.specs.Spelling.{words_of};
 ghost use Rattle.binning.specs.Spans.{IsInRange};
 ghost use Rattle.binning.specs.Bins.{cells, bins_of};
 ghost use Rattle.binning.specs.Gathered.{Gathered, Knows, AreDistinct, keys_in, place_of, groups_after, held};
@@ -12,13 +11,10 @@ ghost use Rattle.binning.specs.declared.rules.Keying.{Keying};
 
 use crate::groups::{Group, KeyPlace, by_key, place};
 use crate::key_places::{KeyPlaces, NO_PLACE};
-use crate::masks::append_mask;
 use crate::place_rows::{PlaceRows, rows_by_place};
 use crate::rules::Rule;
 use std::alloc::{AllocError, Global};
 use std::marker::Model;
-use std::sync::ledger::Ledger;
-use steps::Steps;
 use wah_iter::from_rows;
 use wah_words::Wah;
 
@@ -33,7 +29,7 @@ pub struct Bin {
 /// The rows of a column so far, put into groups by a rule. Contracts see the rule, the groups, and the place of each
 /// row's group.
 #[derive(Drop)]
-pub struct Gatherer {
+pub struct Grouped {
     alloc: Global,
     rule: Rule,
     known: KeyPlaces,
@@ -41,7 +37,7 @@ pub struct Gatherer {
     places: Vec<u32>,
 }
 
-impl Model for Gatherer {
+impl Model for Grouped {
     ghost use Rattle.std.specs.Prelude.{◌≤◌, length};
     ghost use Rattle.wah_words.specs.Limits.{most_bits};
     ghost use Rattle.binning.specs.Gathered.{Held, Knows, keys_in, AreDistinct};
@@ -55,7 +51,7 @@ impl Model for Gatherer {
 
 /// The value of a row, where there is one.
 #[inline(always)]
-fn cell(is_there: bool, v: i128) -> Option<i128>
+pub(crate) fn cell(is_there: bool, v: i128) -> Option<i128>
     ensures { result ≡ (if is_there then Some v else None) }
 {
     if is_there { Some(v) } else { None }
@@ -117,14 +113,14 @@ fn put_rows(
     Ok(())
 }
 
-impl Gatherer {
+impl Grouped {
     /// No row yet.
-    pub fn make(alloc: Global, rule: Rule) -> Gatherer
+    pub(crate) fn make(alloc: Global, rule: Rule) -> Grouped
         ensures rule { result.rule ≡ rule }
         ensures rows { length result.places ≡ 0 }
         ensures gathered { Gathered result [] }
     {
-        Gatherer {
+        Grouped {
             alloc,
             rule,
             known: KeyPlaces::new(alloc),
@@ -133,23 +129,16 @@ impl Gatherer {
         }
     }
 
-    /// Further rows: their values, between -2^63 and 2^64 - 1, and at which of them the column has one. There may be
-    /// 4,194,304 rows in all. A call that is refused hands nothing back.
-    pub fn add<L: Ledger>(
-        self,
-        values: &[i128],
-        present: &Wah,
-        steps: &mut Steps<L>,
-    ) -> Result<Gatherer, AllocError>
-        requires same { length values.now ≡ length present.now }
+    /// Further rows, of which some are there.
+    pub(crate) fn put(self, is_there: &[bool], values: &[i128]) -> Result<Grouped, AllocError>
+        requires same { length is_there.now ≡ length values.now }
         requires within { AllByRecursion IsInRange values.now }
         requires room { length self.places + length values.now ≤ most_bits }
         ensures rule { IfOk result (λ all. all.rule ≡ self.rule) }
         ensures rows { IfOk result (λ all. length all.places ≡ length self.places + length values.now) }
-        ensures gathered { IfOk result (λ all. (column : List (Option ℤ)) → Gathered self column → Gathered all (column ++ cells present.now values.now)) }
-        ensures steps { steps.new ≤ steps.old + words_of present.now }
+        ensures gathered { IfOk result (λ all. (column : List (Option ℤ)) → Gathered self column → Gathered all (column ++ cells is_there.now values.now)) }
     {
-        let Gatherer {
+        let Grouped {
             alloc,
             rule,
             mut known,
@@ -157,9 +146,6 @@ impl Gatherer {
             mut places,
         } = self;
         known.make_room(values.len())?;
-        let mut is_there = Vec::with_capacity(alloc, values.len())?;
-        append_mask(&mut is_there, present, steps)?;
-        let is_there = is_there.as_slice();
         put_rows(
             &mut known,
             &mut groups,
@@ -168,7 +154,7 @@ impl Gatherer {
             is_there,
             values,
         )?;
-        Ok(Gatherer {
+        Ok(Grouped {
             alloc,
             rule,
             known,
@@ -178,8 +164,8 @@ impl Gatherer {
     }
 
     /// The bins of all rows: one for each key, in rising order of key.
-    pub fn finish(self) -> Result<Vec<Bin>, AllocError>
-        ensures { IfOk result (λ bins. (column : List (Option ℤ)) → Gathered self column → bins.items ≡ bins_of self.rule column) }
+    pub(crate) fn finish(&self) -> Result<Vec<Bin>, AllocError>
+        ensures { IfOk result (λ bins. (column : List (Option ℤ)) → Gathered self.now column → bins.items ≡ bins_of self.now.rule column) }
     {
         let bins = bins_of_groups(self.alloc, &self.groups, &self.places)?;
         Ok(bins)
@@ -237,25 +223,5 @@ fn bins_of_groups(alloc: Global, groups: &[Group], places: &[u32]) -> Result<Vec
     let rows = rows_by_place(alloc, places, groups.len())?;
     let order = by_key(alloc, groups)?;
     let bins = bins_in_order(alloc, &order, groups, &rows, places)?;
-    Ok(bins)
-}
-
-/// The bins of a column, whose values lie between -2^63 and 2^64 - 1 and of which a row is there where the mask is true.
-pub fn bins<L: Ledger>(
-    alloc: Global,
-    rule: &Rule,
-    values: &[i128],
-    mask: &Wah,
-    steps: &mut Steps<L>,
-) -> Result<Vec<Bin>, AllocError>
-    requires same { length values.now ≡ length mask.now }
-    requires within { AllByRecursion IsInRange values.now }
-    ensures bins { IfOk result (λ bins. bins.items ≡ bins_of rule.now (cells mask.now values.now)) }
-    ensures steps { steps.new ≤ steps.old + words_of mask.now }
-{
-    let _rows = mask.len();
-    let gatherer = Gatherer::make(alloc, rule.copy(alloc)?);
-    let all = gatherer.add(values, mask, steps)?;
-    let bins = all.finish()?;
     Ok(bins)
 }

@@ -32,11 +32,12 @@ fn if_at(groups: &[Group], last: usize, key: i128) -> Option<u32>
 /// The place of a key's group. The group of the row before, at `last`, is looked at first, then the one that is
 /// guessed.
 #[inline(always)]
-fn find(known: &KeyPlaces, groups: &[Group], last: u32, key: i128) -> Option<u32>
-    requires knows { Knows known.now.map (keys_in groups.now) }
+fn find(known: &mut KeyPlaces, groups: &[Group], last: u32, key: i128) -> Option<u32>
+    requires knows { Knows known.old.map (keys_in groups.now) }
     requires few { length groups.now ≤ most_bits }
     requires distinct { AreDistinct (keys_in groups.now) }
-    ensures { result ≡ place_if key (keys_in groups.now) }
+    ensures place { result ≡ place_if key (keys_in groups.now) }
+    ensures same { known.new.map ≡ known.old.map }
 {
     if let Some(place) = if_at(groups, last as usize, key) {
         return Some(place);
@@ -44,7 +45,7 @@ fn find(known: &KeyPlaces, groups: &[Group], last: u32, key: i128) -> Option<u32
     if let Some(place) = if_at(groups, known.guess(key) as usize, key) {
         return Some(place);
     }
-    known.map.get(&key).copied()
+    known.place(key)
 }
 
 /// Adds a value to its group.
@@ -99,7 +100,6 @@ pub(crate) fn place(
 {
     match find(known, groups, last, key) {
         Some(place) => {
-            known.note(key, place);
             grow(groups, place as usize, v);
             Ok(place)
         }

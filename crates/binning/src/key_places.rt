@@ -1,6 +1,7 @@
 //! The place of each key.
 ghost use Rattle.std.specs.Prelude.{◌≡◌};
-ghost use Rattle.std.specs.HashMap.{IsEmpty};
+ghost use Rattle.std.specs.HashMap.{IsEmpty, get};
+ghost use Rattle.std.specs.Ordering.{int_eq};
 
 use std::alloc::{AllocError, Global};
 use std::collections::HashMap;
@@ -8,8 +9,8 @@ use std::collections::HashMap;
 /// The place of a row that has no value.
 pub(crate) const NO_PLACE: u32 = u32::MAX;
 
-/// How many guesses are kept: 512 KiB, so that they stay near the processor.
-const GUESSES: usize = 131_072;
+/// How many guesses are kept: 256 KiB, so that they stay near the processor.
+const GUESSES: usize = 65_536;
 
 /// From so many rows on, guesses are worth their room.
 const MANY_ROWS: usize = 4_096;
@@ -27,7 +28,7 @@ pub struct KeyPlaces {
 fn slot(key: i128) -> usize {
     let low = (key.unsigned_abs() & 0xFFFF_FFFF_FFFF_FFFF) as u64;
     let bits = if key < 0 { !low } else { low };
-    (bits.wrapping_mul(0x9E37_79B9_7F4A_7C15) >> 47) as usize
+    (bits.wrapping_mul(0x9E37_79B9_7F4A_7C15) >> 48) as usize
 }
 
 impl KeyPlaces {
@@ -59,11 +60,23 @@ impl KeyPlaces {
 
     /// Keeps the place as the guess for its key.
     #[inline(always)]
-    pub(crate) fn note(&mut self, key: i128, place: u32)
+    fn note(&mut self, key: i128, place: u32)
         ensures { self.new.map ≡ self.old.map }
     {
         if let Some(guess) = self.guesses.get_mut(slot(key)) {
             *guess = place;
         }
+    }
+
+    /// The place of a key, which is the guess for it from now on.
+    pub(crate) fn place(&mut self, key: i128) -> Option<u32>
+        ensures place { result ≡ get int_eq self.old.map key }
+        ensures same { self.new.map ≡ self.old.map }
+    {
+        let found = self.map.get(&key).copied();
+        if let Some(place) = found {
+            self.note(key, place);
+        }
+        found
     }
 }

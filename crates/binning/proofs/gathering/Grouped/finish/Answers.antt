@@ -1,7 +1,7 @@
 use Rattle.std.proofs.Common.{◌∙◌, sym, ap, subst}
 use Rattle.binning.specs.Gathered.{Gathered, Held, held}
 use Rattle.binning.specs.Bins.{bins_of}
-use Rattle.binning.proofs.gathering.Gatherer.finish.Goals as goal
+use Rattle.binning.proofs.gathering.Grouped.finish.Goals as goal
 
 pub returns : goal.returns
 returns c =

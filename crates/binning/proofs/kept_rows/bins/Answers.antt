@@ -1,7 +1,7 @@
 use Rattle.std.proofs.Common.{◌≡◌, ◌∙◌, ap, []}
 use Rattle.binning.specs.Bins.{bins_of, cells}
 use Rattle.binning.specs.declared.rules.Keying.{Keying}
-use Rattle.binning.proofs.gathering.bins.Goals as goal
+use Rattle.binning.proofs.kept_rows.bins.Goals as goal
 
 pub returns-clause-bins : goal.returns-clause-bins
 returns-clause-bins g c =

@@ -1,6 +1,6 @@
 use Rattle.std.proofs.Common.{arith, refl}
 use Rattle.binning.proofs.GatherLemmas.{gathered_none}
-use Rattle.binning.proofs.gathering.Gatherer.make.Goals as goal
+use Rattle.binning.proofs.gathering.Grouped.make.Goals as goal
 
 pub invariant_of-result : goal.invariant_of-result
 invariant_of-result c =

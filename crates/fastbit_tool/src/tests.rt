@@ -363,23 +363,9 @@ fn refuses_words_schemas_and_queries(rt: HostRuntime) -> Result<(), Fail> {
             "error 2 schema at column 1 BadType\n",
         ),
     ] {
-        expect_five(&rt, rt.blank(), &mut store, words, code, printed)?;
+        expect_words(&rt, rt.blank(), &mut store, &words, code, printed)?;
     }
     Ok(())
-}
-
-/// Runs a command of five words.
-fn expect_five<R: Abort + AllocGlobal>(
-    rt: &R,
-    blank: Blank,
-    store: &mut MemStore,
-    words: [&'static str; 5],
-    code: u8,
-    printed: &'static str,
-) -> Result<(), AllocError>
-    requires { 0 < blank.parts }
-{
-    expect_words(rt, blank, store, &words, code, printed)
 }
 
 /// Runs a command without input.
@@ -575,7 +561,7 @@ fn builds_indexes(rt: HostRuntime) -> Result<(), Fail> {
         ("E", "", 7, "error 7 missing E/-catalog.txt\n"),
     ] {
         let words = ["ibis", "-d", dir, "-b", spec];
-        expect_five(&rt, rt.blank(), &mut store, words, code, printed)?;
+        expect_words(&rt, rt.blank(), &mut store, &words, code, printed)?;
     }
     assert!(rt; store.file("L/p0000/bytes.idx").is_some());
     assert!(rt; store.file("L/p0000/path.idx").is_none());
@@ -604,7 +590,7 @@ fn a_refused_index_leaves_those_before_it(rt: HostRuntime) -> Result<(), Fail> {
     expect(&rt, rt.blank(), &mut store, &load)?;
     let words = ["ibis", "-d", "V", "-b", "<encoding range/>"];
     let many = "error 9 limit bins 1025 over 1024\n";
-    expect_five(&rt, rt.blank(), &mut store, words, 9, many)?;
+    expect_words(&rt, rt.blank(), &mut store, &words, 9, many)?;
     assert!(rt; store.file("V/p0000/a.idx").is_some());
     assert!(rt; store.file("V/p0000/b.idx").is_none());
     Ok(())

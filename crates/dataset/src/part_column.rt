@@ -27,7 +27,7 @@ pub(crate) struct PartColumn<'a> {
 }
 
 impl<'a> Model for PartColumn<'a> {
-    ghost use Rattle.world.specs.PartFiles.{column_cells};
+    ghost use Rattle.world.specs.Cells.{column_cells};
     ghost use Rattle.dataset.specs.WrittenColumns.{ColumnOfPart, IsColumnOfPart, IsCutFrom, records_from};
 
     ghost Value = { ColumnOfPart };

@@ -423,14 +423,8 @@ fn names_each_damaged_file(rt: HostRuntime) -> Result<(), Fail> {
             "loaded 1 rows\n",
         )?;
         keep(&rt, &mut store, file, bytes)?;
-        expect_five(
-            &rt,
-            rt.blank(),
-            &mut store,
-            ["ibis", "-d", "D", "-q", "where a < 3"],
-            8,
-            printed,
-        )?;
+        let below = ["ibis", "-d", "D", "-q", "where a < 3"];
+        expect_words(&rt, rt.blank(), &mut store, &below, 8, printed)?;
     }
     Ok(())
 }

@@ -5,11 +5,7 @@ use Rattle.fb_outside.specs.Files.{Files}
 use Rattle.fb_outside.specs.Streams.{ForSomeInput, GrowsInPart}
 use Rattle.fb_outside.proofs.StreamLemmas.{GrowsInPart-none}
 use Rattle.statuses.specs.declared.Status.{Status}
-<<<<<<< HEAD
 use Rattle.statuses.specs.declared.Status.TheVariants.{Done, Usage, BadSchema, BadInput, SchemaDiffers, BadQuery, BadSpec, NoDataset, Damaged, Limit, ReadFault, StoreFault, SinkFault, OutOfMemory}
-=======
-use Rattle.statuses.specs.declared.Status.TheVariants.{Done, Usage, BadSchema, BadInput, SchemaDiffers, BadSpec, BadQuery, NoDataset, Damaged, Limit, ReadFault, StoreFault, SinkFault, OutOfMemory}
->>>>>>> a13068991a6e66aaf36af0946a8e0e69ef9b4e08
 use Rattle.statuses.specs.Outcome.{Outcome}
 use Rattle.world.specs.World.{World}
 use Rattle.world.specs.Stands.{StandsFor}
@@ -80,7 +76,6 @@ not_silent Usage e = refl
 not_silent (BadSchema column kind) e = refl
 not_silent (BadInput number field kind) e = refl
 not_silent (SchemaDiffers column) e = refl
-not_silent (BadSpec kind) e = refl
 not_silent (BadQuery kind) e = refl
 not_silent (BadSpec kind) e = refl
 not_silent (NoDataset file) e = refl
@@ -121,7 +116,6 @@ yields_by command left Usage r s = tt
 yields_by command left (BadSchema column kind) r s = tt
 yields_by command left (BadInput number field kind) r s = tt
 yields_by command left (SchemaDiffers column) r s = tt
-yields_by command left (BadSpec kind) r s = tt
 yields_by command left (BadQuery kind) r s = tt
 yields_by command left (BadSpec kind) r s = tt
 yields_by command left (NoDataset file) r s = tt

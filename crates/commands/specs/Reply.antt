@@ -2,11 +2,7 @@
 use Rattle.std.specs.Prelude.{◌≡◌, ◌⊎◌, ℕ, Bool, true, false, List, Option}
 use Rattle.fb_outside.specs.Streams.{Grows, GrowsInPart}
 use Rattle.statuses.specs.declared.Status.{Status}
-<<<<<<< HEAD
 use Rattle.statuses.specs.declared.Status.TheVariants.{Done, Usage, BadSchema, BadInput, SchemaDiffers, BadQuery, BadSpec, NoDataset, Damaged, Limit, ReadFault, StoreFault, SinkFault, OutOfMemory}
-=======
-use Rattle.statuses.specs.declared.Status.TheVariants.{Done, Usage, BadSchema, BadInput, SchemaDiffers, BadSpec, BadQuery, NoDataset, Damaged, Limit, ReadFault, StoreFault, SinkFault, OutOfMemory}
->>>>>>> a13068991a6e66aaf36af0946a8e0e69ef9b4e08
 use Rattle.statuses.specs.Outcome.{Outcome}
 
 -- a status that prints nothing more, to which every other yields: the outside failed, or memory ran out
@@ -16,7 +12,6 @@ is_fault Usage = false
 is_fault (BadSchema column kind) = false
 is_fault (BadInput number field kind) = false
 is_fault (SchemaDiffers column) = false
-is_fault (BadSpec kind) = false
 is_fault (BadQuery kind) = false
 is_fault (BadSpec kind) = false
 is_fault (NoDataset file) = false

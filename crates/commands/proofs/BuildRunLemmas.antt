@@ -64,12 +64,12 @@ declined_says : (outcome : Outcome) (status : Status) → Prints-text outcome �
 declined_says outcome status text differs is =
     record { status = sym is; text = ap line_of (sym is) ∙ sym (text.declined (λ e. differs (sym is ∙ e))) }
 
-module _ (dir text : List ℕ) (list : Option (List ℕ)) (left : Option (List ℕ)) (old new : Option Files) (before after : Option (List ℕ)) (status : Status) where
+module _ (dir text : List ℕ) (list : Option (List ℕ)) (left : Option (List ℕ)) (old new : Option Files) (before now : Option (List ℕ)) (status : Status) where
   abbrev Leave : Result ℕ Unanswered → Type 0
   Leave given = (world : World) → StandsFor old world → LeavesBuilt (build_outcome dir text list world) world given new
 
   ran : (given : Result ℕ Unanswered) → BuildGives dir text list old given → Leave given → (IsErrOf given unanswered.StoreFault → is_ok (spec_of text) ≡ true)
-      → PrintsGiven given before after status → Runs (Builds dir text list) left old before after status
+      → PrintsGiven given before now status → Runs (Builds dir text list) left old before now status
   ran (Ok count) gives leave asks prints =
       Answers (told_of (Ok count)) (record { result = Ok count; comes = gives; is = refl })
       (record {
@@ -91,7 +91,7 @@ module _ (dir text : List ℕ) (list : Option (List ℕ)) (left : Option (List �
       Unstored (record { input = some_input left; told = some_told left; holds = asks refl }) prints.0 prints.1
   ran (Err unanswered.OutOfMemory) gives leave asks prints = Stops prints.0 prints.1
 
-  pub build_ran : BuildRuns dir text list old new before after status → Runs (Builds dir text list) left old before after status
+  pub build_ran : BuildRuns dir text list old new before now status → Runs (Builds dir text list) left old before now status
   build_ran h = ran h.given h.gives h.stands h.asks_store h.prints
 
   -- ---- what it leaves of the files
@@ -119,13 +119,13 @@ module _ (dir text : List ℕ) (list : Option (List ℕ)) (left : Option (List �
   other_than : (other : Status) → status ≡ other → other ≢ ReadFault → status ≢ ReadFault
   other_than other is differs e = differs (sym is ∙ e)
 
-  leaves_by : (given : Result ℕ Unanswered) → BuildGives dir text list old given → Leave given → PrintsGiven given before after status
+  leaves_by : (given : Result ℕ Unanswered) → BuildGives dir text list old given → Leave given → PrintsGiven given before now status
       → (w : World) → StandsFor old w → LeavesAfter (build_outcome dir text list w).effects w status new
   leaves_by (Ok count) gives leave prints w h =
-      all_made (build_outcome dir text list w).effects w (leave w h).2 (not_read Done (built_line count) before after status refl prints)
+      all_made (build_outcome dir text list w).effects w (leave w h).2 (not_read Done (built_line count) before now status refl prints)
   leaves_by (Err (unanswered.Refused why)) gives leave prints w h =
       all_made (build_outcome dir text list w).effects w (leave w h).1
-      (not_read why (line_of why) before after status (IsRefusal-build dir text list old why gives).no_fault prints)
+      (not_read why (line_of why) before now status (IsRefusal-build dir text list old why gives).no_fault prints)
   leaves_by (Err unanswered.StoreFault) gives leave prints w h =
       some_made (build_outcome dir text list w).effects w (leave w h) (ap is_fault prints.1) (other_than StoreFault prints.1 (λ e. cc))
   leaves_by (Err unanswered.OutOfMemory) gives leave prints w h =
@@ -165,11 +165,11 @@ build_kept dir text list None new (inr h) = record { told = h.changes.told; othe
 build_kept dir text list (Some m) new (inr h) =
     ChangesAmong-weaken (Some m) new (λ q. index_asked dir text list m h.dataset h.asked q h.told h.asks) h.changes
 
-pub build_leaves : (dir text : List ℕ) (list : Option (List ℕ)) (old new : Option Files) (before after : Option (List ℕ)) (status : Status)
-    → BuildRuns dir text list old new before after status → Leaves (Builds dir text list) old new status
-build_leaves dir text list old new before after status h =
+pub build_leaves : (dir text : List ℕ) (list : Option (List ℕ)) (old new : Option Files) (before now : Option (List ℕ)) (status : Status)
+    → BuildRuns dir text list old new before now status → Leaves (Builds dir text list) old new status
+build_leaves dir text list old new before now status h =
     record {
-      leaves = λ input w stands. leaves_by dir text list None old new before after status h.given h.gives h.stands h.prints w stands;
+      leaves = λ input w stands. leaves_by dir text list None old new before now status h.given h.gives h.stands h.prints w stands;
       kept = build_kept dir text list old new h.kept;
       refused = λ plain other. h.kept;
     }

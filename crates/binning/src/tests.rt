@@ -1,4 +1,4 @@
-ghost use Rattle.std.specs.Prelude.{◌≡◌, ◌<◌, ◌≤◌, length};
+ghost use Rattle.std.specs.Prelude.{◌≡◌, ◌+◌, ◌<◌, ◌≤◌, length, IfOk};
 ghost use Rattle.std.specs.List.{AllByRecursion};
 ghost use Rattle.index_spec.specs.Language.{IsGivenBinning};
 ghost use Rattle.binning.specs.Spans.{IsInRange};
@@ -154,5 +154,97 @@ fn blocks_are_joined(rt: HostRuntime) -> Result<(), Fail> {
     )?.ok_or("too many")?;
     let wanted = [-2, -2, 1, 7, 3, 3, 6, 7, 7, 0, 2, 5, 9, 9, 3, 4];
     assert_eq!(rt; found.as_slice(), wanted.as_slice());
+    Ok(())
+}
+
+/// The numbers `row * 7919 % modulus` of so many rows from the first one on.
+fn products(alloc: Global, first: u32, count: u32, modulus: u32) -> Result<Vec<i128>, AllocError>
+    requires some { 0 < modulus }
+    requires few { first + count ≤ 500000 }
+    ensures { IfOk result (λ numbers. AllByRecursion IsInRange numbers.items) }
+{
+    let mut numbers = Vec::new(alloc);
+    for row in first..first + count {
+        numbers.push(i128::from(row * 7919 % modulus))?;
+    }
+    Ok(numbers)
+}
+
+/// A mask of so many groups of 31 rows that are all there.
+fn all_groups(alloc: Global, groups: u32) -> Result<Wah, AllocError>
+    requires some { 1 ≤ groups }
+    requires few { groups ≤ 1000 }
+{
+    let mut builder = Builder::with_room(alloc, 1)?;
+    builder.push_fill(true, groups);
+    Ok(builder.finish())
+}
+
+/// The bins of such numbers in blocks of 3,100 rows, each value a bin.
+fn bins_of_products<L: Ledger>(
+    blank: Blank,
+    alloc: Global,
+    blocks: u32,
+    modulus: u32,
+) -> Result<Option<Vec<Bin>>, AllocError>
+    requires ledger { blank.name ≡ L.name }
+    requires parts { blank.parts ≡ L.parts }
+    requires room { 0 < blank.parts }
+    requires some { 0 < modulus }
+    requires few { blocks ≤ 100 }
+{
+    let mut steps = Steps::<L>::new(blank);
+    let mask = all_groups(alloc, 100)?;
+    let mut gatherer = Gatherer::make(alloc, Rule::each());
+    for block in 0..blocks {
+        let numbers = products(alloc, block * 3100, 3100, modulus)?;
+        if numbers.len() != 3100 || mask.len() != 3100 {
+            return Ok(None);
+        }
+        gatherer = gatherer.add(&numbers, &mask, &mut steps)?;
+    }
+    Ok(Some(gatherer.finish()?))
+}
+
+/// The rows of the bin with this number.
+fn rows_of_bin<L: Ledger>(
+    blank: Blank,
+    alloc: Global,
+    found: &[Bin],
+    place: usize,
+) -> Result<Vec<i128>, AllocError>
+    requires ledger { blank.name ≡ L.name }
+    requires parts { blank.parts ≡ L.parts }
+    requires some { 0 < blank.parts }
+{
+    let mut steps = Steps::<L>::new(blank);
+    let mut rows = Vec::new(alloc);
+    if let Some(bin) = found.get(place) {
+        push_rows(&mut rows, &bin.rows, &mut steps)?;
+    }
+    Ok(rows)
+}
+
+#[test]
+fn values_of_their_own_are_bins(rt: HostRuntime) -> Result<(), Fail> {
+    let alloc = rt.alloc();
+    // the value of row 12,399 is that of row 0; no other comes twice
+    let found = bins_of_products::<Brand>(rt.blank(), alloc, 4, 12_399)?.ok_or("no block")?;
+    assert_eq!(rt; found.len(), 12_399);
+    let rows = rows_of_bin::<Brand>(rt.blank(), alloc, &found, 0)?;
+    assert_eq!(rt; rows.as_slice(), [0, 12_399].as_slice());
+    let rows = rows_of_bin::<Brand>(rt.blank(), alloc, &found, 7919)?;
+    assert_eq!(rt; rows.as_slice(), [1].as_slice());
+    Ok(())
+}
+
+#[test]
+fn shared_values_are_bins(rt: HostRuntime) -> Result<(), Fail> {
+    let alloc = rt.alloc();
+    // every 10,007th row has the same value
+    let found = bins_of_products::<Brand>(rt.blank(), alloc, 11, 10_007)?.ok_or("no block")?;
+    assert_eq!(rt; found.len(), 10_007);
+    let rows = rows_of_bin::<Brand>(rt.blank(), alloc, &found, 7919)?;
+    assert_eq!(rt; rows.as_slice(), [1, 10_008, 20_015, 30_022].as_slice());
     Ok(())
 }

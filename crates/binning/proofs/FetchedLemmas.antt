@@ -1,11 +1,11 @@
 -- What is read for a run of bins, as unions over sets of bins.
-use Rattle.std.proofs.Common.{◌≡◌, ℕ, zero, suc, ◌+◌, ◌*◌, ◌<◌, ◌≤◌, Bool, true, false, map, List, [], ◌∷◌, All, length, get_or, Result, Ok, Err, OnOk, OnErr, refl, sym, ap, ◌∙◌, arith}
+use Rattle.std.proofs.Common.{◌≡◌, ℕ, zero, suc, ◌+◌, ◌*◌, ◌<◌, ◌≤◌, Bool, true, false, map, List, [], ◌∷◌, All, length, get_or, Result, Ok, Err, OnOk, OnErr, refl, ap, ◌∙◌, arith}
 use Rattle.std.specs.List.{list_any}
 use Rattle.std.proofs.lemmas.List.{map-id}
 use Rattle.index_spec.specs.declared.spec.EncodingSpec.{EncodingSpec}
 use Rattle.index_spec.specs.Members.{member, needed}
 use Rattle.wah_logic.specs.Logic.{each_place, union, groups_and_rest}
-use Rattle.binning.specs.Members.{union_of, in_run, AreBins, bitmap, AreFetched}
+use Rattle.binning.specs.Members.{union_of, in_run, bitmap, AreFetched}
 use Rattle.binning.proofs.MembersLemmas.{union_of-same, union_of-all, bins-op, bins-unions}
 
 get_or-map_of : {A : Type 0} (f : ℕ → A) (ks : List ℕ) (i : ℕ) (d : A) → i < length ks → get_or (map f ks) i d ≡ f (get_or ks i 0)

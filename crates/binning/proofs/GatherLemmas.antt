@@ -201,7 +201,7 @@ gathered_none keys gs ps e f = rw (e, f) (record { distinct = tt; keys = λ k. r
 
 -- ---- the bins
 
-place_get : (q : ℤ) (ks : List ℤ) (d : ℤ) → place_in q ks < length ks → get_or ks (place_in q ks) d ≡ q
+pub place_get : (q : ℤ) (ks : List ℤ) (d : ℤ) → place_in q ks < length ks → get_or ks (place_in q ks) d ≡ q
 place_get q [] d h = absurd (omega arith)
 place_get q (x ∷ ks) d h =
     either (int_eq q x)

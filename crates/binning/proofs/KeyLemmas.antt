@@ -19,7 +19,7 @@ use Rattle.index_spec.specs.Meaning.{rises}
 use Rattle.index_spec.specs.Language.{IsGivenBinning}
 use Rattle.index_spec.specs.declared.spec.Binning.{Binning}
 use Rattle.index_spec.specs.declared.spec.Binning.TheVariants as binning
-use Rattle.binning.specs.Keys.{put, rising, placed, sorted, Rises, IsKeying, keying_of, width_bounds, weight_bounds}
+use Rattle.binning.specs.Keys.{put, rising, placed, sorted, Rises, IsKeying, keying_of, width_bounds, weight_bounds, Weak}
 use Rattle.binning.specs.Gathered.{is_in, AreDistinct}
 use Rattle.binning.proofs.TestLemmas.{either, not_both, or-false}
 
@@ -57,7 +57,7 @@ or_no : (a b : Bool) → (a || b) ≡ false → (a ≡ false) × (b ≡ false)
 or_no true b h = absurd (not_both refl h)
 or_no false b h = (refl, h)
 
-strict : (x b : ℤ) → x ≤ℤ b → int_eq b x ≡ false → x <ℤ b
+pub strict : (x b : ℤ) → x ≤ℤ b → int_eq b x ≡ false → x <ℤ b
 strict x b h f =
     either (int_lt x b) (λ t. lt_of x b t) (λ g. let e : b ≡ x = omega (arith, ints, le_of x b g) in absurd (not_both (eq_true b x e) f))
 
@@ -80,7 +80,7 @@ rises_cons x [] r h = tt
 rises_cons x (y ∷ xs) r h = (h y (or_left (int_eq y y) (is_in y xs) (eq_self y)), r)
 
 -- the first isn't among the others
-not_later : (x : ℤ) (xs : List ℤ) → Rises (x ∷ xs) → is_in x xs ≡ false
+pub not_later : (x : ℤ) (xs : List ℤ) → Rises (x ∷ xs) → is_in x xs ≡ false
 not_later x xs r = either (is_in x xs) (λ t. let h = rises_above x xs r x t in absurd (omega (arith, ints))) (λ f. f)
 
 tail_same : (x : ℤ) (xs ys : List ℤ) → Rises (x ∷ xs) → Rises (x ∷ ys) → ((v : ℤ) → is_in v (x ∷ xs) ≡ is_in v (x ∷ ys)) → (v : ℤ) → is_in v xs ≡ is_in v ys
@@ -200,19 +200,13 @@ all_le_up a b (x ∷ xs) h all = (omega (arith, ints, all.0), all_le_up a b xs h
 abbrev pub occurs : ℤ → List ℤ → ℕ
 occurs v xs = sum_by (λ x. cond (int_eq v x) 1 0) xs
 
--- each number is at most the next
-abbrev pub Weak : List ℤ → Type 0
-Weak [] = Unit {0}
-Weak (x ∷ []) = Unit {0}
-Weak (x ∷ y ∷ ys) = (x ≤ℤ y) × Weak (y ∷ ys)
-
 occurs-cons : (v x : ℤ) (xs : List ℤ) → occurs v (x ∷ xs) ≡ cond (int_eq v x) 1 0 + occurs v xs
 occurs-cons v x xs = sum_by-cons (λ x. cond (int_eq v x) 1 0) x xs
 
 occurs-self : (x : ℤ) (xs : List ℤ) → occurs x (x ∷ xs) ≡ 1 + occurs x xs
 occurs-self x xs = occurs-cons x x xs ∙ (rw (eq_self x) refl)
 
-weak_tail : (x : ℤ) (xs : List ℤ) → Weak (x ∷ xs) → Weak xs
+pub weak_tail : (x : ℤ) (xs : List ℤ) → Weak (x ∷ xs) → Weak xs
 weak_tail x [] w = tt
 weak_tail x (y ∷ xs) w = w.1
 

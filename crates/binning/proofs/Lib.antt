@@ -8,7 +8,9 @@ pub mod KeyLemmas
 pub mod BoundLemmas
 pub mod GroupLemmas
 pub mod OrderLemmas
+pub mod PlaceRowsLemmas
 pub mod GatherLemmas
+pub mod ListedLemmas
 pub mod ColumnLemmas
 pub mod KeyOrderLemmas
 pub mod BinOrderLemmas

@@ -1,12 +1,12 @@
 -- Unions over sets of bins: for bins apart, an operation on two unions is the union over the operation on the sets.
-use Rattle.std.proofs.Common.{◌≡◌, ◌==◌, ℕ, zero, suc, ◌+◌, ◌-◌, ◌<◌, ◌≤◌, Bool, true, false, ◌&&◌, ◌||◌, if◌then◌else◌, nat_lt, nat_le, map, List, [], ◌∷◌, ◌++◌, All, length, take, drop, replicate, get_or, refl, sym, ap, ◌∙◌, ◌⊎◌, inl, inr, arith, rules}
+use Rattle.std.proofs.Common.{◌≡◌, ◌==◌, ℕ, zero, suc, ◌+◌, ◌-◌, ◌<◌, ◌≤◌, Bool, true, false, ◌&&◌, ◌||◌, if◌then◌else◌, nat_lt, map, List, [], ◌∷◌, ◌++◌, All, length, take, drop, replicate, get_or, refl, sym, ap, ◌∙◌, ◌⊎◌, inl, inr, arith}
 use Rattle.std.specs.List.{list_any, range_with_len}
 use Rattle.std.proofs.lemmas.Bool.Decides.{nat_tests}
-use Rattle.std.proofs.lemmas.List.{length-replicate, length-map, map-id}
+use Rattle.std.proofs.lemmas.List.{length-map, map-id}
 use Rattle.std.proofs.lemmas.List.FromFn.{map-range_with_len_more}
 use Rattle.std.proofs.lemmas.List.Elements.{All-drop}
 use Rattle.wah_logic.specs.Logic.{each_place, and, or, union}
-use Rattle.wah_logic.proofs.JoinLemmas.{length-each, each_replicate}
+use Rattle.wah_logic.proofs.JoinLemmas.{each_replicate}
 use Rattle.wah_logic.proofs.UnionLemmas.{each_zeros_left, length-union, union-one}
 use Rattle.index_spec.specs.Members.{from_to}
 use Rattle.binning.specs.declared.gathering.Bin.{Bin}

@@ -1,5 +1,5 @@
 -- The key of a value, which decides its bin, and the keys that a binning says over the values of a column.
-use Rattle.std.specs.Prelude.{ℕ, ◌+◌, ◌-◌, ◌*◌, ◌/◌, ◌%◌, ◌^◌, ◌≤◌, if◌then◌else◌, int_lt, List, [], ◌∷◌, length, map, slice_index_or, count_by, ℤ, pos, negsuc, neg_ℤ, ◌+ℤ◌, ◌<ℤ◌}
+use Rattle.std.specs.Prelude.{ℕ, ◌+◌, ◌-◌, ◌*◌, ◌/◌, ◌%◌, ◌^◌, ◌≤◌, if◌then◌else◌, int_lt, List, [], ◌∷◌, length, map, slice_index_or, count_by, ℤ, pos, negsuc, neg_ℤ, ◌+ℤ◌, ◌<ℤ◌, ◌≤ℤ◌}
 use Rattle.std.specs.List.{range_with_len}
 use Rattle.std.specs.Int.{int_gap}
 use Rattle.std.specs.Fmt.{decimal}
@@ -53,6 +53,12 @@ abbrev pub Rises : List ℤ → Type 0
 Rises [] = Unit {0}
 Rises (x ∷ []) = Unit {0}
 Rises (x ∷ y ∷ ys) = (x <ℤ y) × Rises (y ∷ ys)
+
+-- each number is at most the next
+abbrev pub Weak : List ℤ → Type 0
+Weak [] = Unit {0}
+Weak (x ∷ []) = Unit {0}
+Weak (x ∷ y ∷ ys) = (x ≤ℤ y) × Weak (y ∷ ys)
 
 -- ---- the keys that a binning says
 

@@ -4,6 +4,8 @@ pub mod Against
 pub mod Keys
 pub mod Gathered
 pub mod Groups
+pub mod Listed
+pub mod Kept
 pub mod Bins
 pub mod Order
 pub mod BinFor

@@ -1,8 +1,7 @@
-//! The bins of a column, gathered block by block.
+//! Rows that are put into groups as they come.
 ghost use Rattle.std.specs.Prelude.{◌≡◌, ℤ, ◌+◌, ◌<◌, ◌≤◌, List, Option, Some, None, [], ◌∷◌, ◌++◌, if◌then◌else◌, length, map, IfOk, IfSome, OnOk};
 ghost use Rattle.std.specs.List.{AllByRecursion, range_with_len};
 ghost use Rattle.wah_words.specs.Limits.{most_bits};
-ghost use Rattle.wah_words.specs.Spelling.{words_of};
 ghost use Rattle.binning.specs.Spans.{IsInRange};
 ghost use Rattle.binning.specs.Bins.{cells, bins_of};
 ghost use Rattle.binning.specs.Gathered.{Gathered, Knows, AreDistinct, keys_in, place_of, groups_after, held};
@@ -10,15 +9,12 @@ ghost use Rattle.binning.specs.Groups.{rows_at};
 ghost use Rattle.binning.specs.BinFor.{bin_for};
 ghost use Rattle.binning.specs.declared.rules.Keying.{Keying};
 
-use crate::groups::{Group, KeyPlace, NO_PLACE, by_key, place, rows_by_place};
-use crate::masks::append_mask;
+use crate::groups::{Group, KeyPlace, by_key, place};
+use crate::key_places::{KeyPlaces, NO_PLACE};
+use crate::place_rows::{PlaceRows, rows_by_place};
 use crate::rules::Rule;
-use sqlite_items::Items;
 use std::alloc::{AllocError, Global};
-use std::collections::HashMap;
 use std::marker::Model;
-use std::sync::ledger::Ledger;
-use steps::Steps;
 use wah_iter::from_rows;
 use wah_words::Wah;
 
@@ -33,15 +29,15 @@ pub struct Bin {
 /// The rows of a column so far, put into groups by a rule. Contracts see the rule, the groups, and the place of each
 /// row's group.
 #[derive(Drop)]
-pub struct Gatherer {
+pub struct Grouped {
     alloc: Global,
     rule: Rule,
-    known: HashMap<i128, u32>,
+    known: KeyPlaces,
     groups: Vec<Group>,
     places: Vec<u32>,
 }
 
-impl Model for Gatherer {
+impl Model for Grouped {
     ghost use Rattle.std.specs.Prelude.{◌≤◌, length};
     ghost use Rattle.wah_words.specs.Limits.{most_bits};
     ghost use Rattle.binning.specs.Gathered.{Held, Knows, keys_in, AreDistinct};
@@ -50,12 +46,12 @@ impl Model for Gatherer {
 
     ghost view = { λ g. record { rule = g.rule; groups = g.groups.items; places = g.places.items } };
 
-    ghost invariant = { λ g. Knows g.known (keys_in g.groups.items) × AreDistinct (keys_in g.groups.items) × (length g.groups.items ≤ length g.places.items) × (length g.places.items ≤ most_bits) };
+    ghost invariant = { λ g. Knows g.known.map (keys_in g.groups.items) × AreDistinct (keys_in g.groups.items) × (length g.groups.items ≤ length g.places.items) × (length g.places.items ≤ most_bits) };
 }
 
 /// The value of a row, where there is one.
 #[inline(always)]
-fn cell(is_there: bool, v: i128) -> Option<i128>
+pub(crate) fn cell(is_there: bool, v: i128) -> Option<i128>
     ensures { result ≡ (if is_there then Some v else None) }
 {
     if is_there { Some(v) } else { None }
@@ -64,7 +60,7 @@ fn cell(is_there: bool, v: i128) -> Option<i128>
 /// Adds a row, and tells its place. The group at `last` is looked at first.
 #[inline(always)]
 fn put_row(
-    known: &mut HashMap<i128, u32>,
+    known: &mut KeyPlaces,
     groups: &mut Vec<Group>,
     places: &mut Vec<u32>,
     rule: &Rule,
@@ -72,25 +68,25 @@ fn put_row(
     cell: Option<i128>,
 ) -> Result<u32, AllocError>
     requires within { IfSome cell IsInRange }
-    requires knows { Knows known.old (keys_in groups.old.items) }
+    requires knows { Knows known.old.map (keys_in groups.old.items) }
     requires distinct { AreDistinct (keys_in groups.old.items) }
     requires few { length groups.old.items < most_bits }
     ensures groups { OnOk result (groups.new.items ≡ groups_after rule.now groups.old.items cell) }
     ensures places { OnOk result (places.new.items ≡ places.old.items ++ place_of rule.now (keys_in groups.old.items) cell ∷ []) }
-    ensures knows { OnOk result (Knows known.new (keys_in groups.new.items)) }
+    ensures knows { OnOk result (Knows known.new.map (keys_in groups.new.items)) }
 {
     let Some(v) = cell else {
         places.push(NO_PLACE)?;
         return Ok(NO_PLACE);
     };
-    let at_place = place(known, groups, last as usize, rule.key(v), v)?;
+    let at_place = place(known, groups, last, rule.key(v), v)?;
     places.push(at_place)?;
     Ok(at_place)
 }
 
 /// Adds rows, of which some are there.
 fn put_rows(
-    known: &mut HashMap<i128, u32>,
+    known: &mut KeyPlaces,
     groups: &mut Vec<Group>,
     places: &mut Vec<u32>,
     rule: &Rule,
@@ -99,11 +95,11 @@ fn put_rows(
 ) -> Result<(), AllocError>
     requires same { length is_there.now ≡ length values.now }
     requires within { AllByRecursion IsInRange values.now }
-    requires knows { Knows known.old (keys_in groups.old.items) }
+    requires knows { Knows known.old.map (keys_in groups.old.items) }
     requires distinct { AreDistinct (keys_in groups.old.items) }
     requires few { length groups.old.items ≤ length places.old.items }
     requires room { length places.old.items + length values.now ≤ most_bits }
-    ensures knows { OnOk result (Knows known.new (keys_in groups.new.items)) }
+    ensures knows { OnOk result (Knows known.new.map (keys_in groups.new.items)) }
     ensures distinct { OnOk result (AreDistinct (keys_in groups.new.items)) }
     ensures few { OnOk result (length groups.new.items ≤ length places.new.items) }
     ensures rows { OnOk result (length places.new.items ≡ length places.old.items + length values.now) }
@@ -117,48 +113,39 @@ fn put_rows(
     Ok(())
 }
 
-impl Gatherer {
+impl Grouped {
     /// No row yet.
-    pub fn make(alloc: Global, rule: Rule) -> Gatherer
+    pub(crate) fn make(alloc: Global, rule: Rule) -> Grouped
         ensures rule { result.rule ≡ rule }
         ensures rows { length result.places ≡ 0 }
         ensures gathered { Gathered result [] }
     {
-        Gatherer {
+        Grouped {
             alloc,
             rule,
-            known: HashMap::new(alloc),
+            known: KeyPlaces::new(alloc),
             groups: Vec::new(alloc),
             places: Vec::new(alloc),
         }
     }
 
-    /// Further rows: their values, between -2^63 and 2^64 - 1, and at which of them the column has one. There may be
-    /// 4,194,304 rows in all. A call that is refused hands nothing back.
-    pub fn add<L: Ledger>(
-        self,
-        values: &[i128],
-        present: &Wah,
-        steps: &mut Steps<L>,
-    ) -> Result<Gatherer, AllocError>
-        requires same { length values.now ≡ length present.now }
+    /// Further rows, of which some are there.
+    pub(crate) fn put(self, is_there: &[bool], values: &[i128]) -> Result<Grouped, AllocError>
+        requires same { length is_there.now ≡ length values.now }
         requires within { AllByRecursion IsInRange values.now }
         requires room { length self.places + length values.now ≤ most_bits }
         ensures rule { IfOk result (λ all. all.rule ≡ self.rule) }
         ensures rows { IfOk result (λ all. length all.places ≡ length self.places + length values.now) }
-        ensures gathered { IfOk result (λ all. (column : List (Option ℤ)) → Gathered self column → Gathered all (column ++ cells present.now values.now)) }
-        ensures steps { steps.new ≤ steps.old + words_of present.now }
+        ensures gathered { IfOk result (λ all. (column : List (Option ℤ)) → Gathered self column → Gathered all (column ++ cells is_there.now values.now)) }
     {
-        let Gatherer {
+        let Grouped {
             alloc,
             rule,
             mut known,
             mut groups,
             mut places,
         } = self;
-        let mut is_there = Vec::with_capacity(alloc, values.len())?;
-        append_mask(&mut is_there, present, steps)?;
-        let is_there = is_there.as_slice();
+        known.make_room(values.len())?;
         put_rows(
             &mut known,
             &mut groups,
@@ -167,7 +154,7 @@ impl Gatherer {
             is_there,
             values,
         )?;
-        Ok(Gatherer {
+        Ok(Grouped {
             alloc,
             rule,
             known,
@@ -177,8 +164,8 @@ impl Gatherer {
     }
 
     /// The bins of all rows: one for each key, in rising order of key.
-    pub fn finish(self) -> Result<Vec<Bin>, AllocError>
-        ensures { IfOk result (λ bins. (column : List (Option ℤ)) → Gathered self column → bins.items ≡ bins_of self.rule column) }
+    pub(crate) fn finish(&self) -> Result<Vec<Bin>, AllocError>
+        ensures { IfOk result (λ bins. (column : List (Option ℤ)) → Gathered self.now column → bins.items ≡ bins_of self.now.rule column) }
     {
         let bins = bins_of_groups(self.alloc, &self.groups, &self.places)?;
         Ok(bins)
@@ -189,7 +176,7 @@ impl Gatherer {
 fn bin_at(
     alloc: Global,
     groups: &[Group],
-    rows: &[Items<u32>],
+    rows: &PlaceRows,
     places: &[u32],
     place: u32,
 ) -> Result<Bin, AllocError>
@@ -199,7 +186,7 @@ fn bin_at(
     ensures { IfOk result (λ bin. bin ≡ bin_for groups.now places.now place) }
 {
     let group = groups[place as usize];
-    let at_place = rows[place as usize].as_slice();
+    let at_place = rows.at(place);
     Ok(Bin {
         least: group.least,
         greatest: group.greatest,
@@ -212,7 +199,7 @@ fn bins_in_order(
     alloc: Global,
     order: &[KeyPlace],
     groups: &[Group],
-    rows: &[Items<u32>],
+    rows: &PlaceRows,
     places: &[u32],
 ) -> Result<Vec<Bin>, AllocError>
     requires within { AllByRecursion (λ pair. pair.place < length groups.now) order.now }
@@ -236,25 +223,5 @@ fn bins_of_groups(alloc: Global, groups: &[Group], places: &[u32]) -> Result<Vec
     let rows = rows_by_place(alloc, places, groups.len())?;
     let order = by_key(alloc, groups)?;
     let bins = bins_in_order(alloc, &order, groups, &rows, places)?;
-    Ok(bins)
-}
-
-/// The bins of a column, whose values lie between -2^63 and 2^64 - 1 and of which a row is there where the mask is true.
-pub fn bins<L: Ledger>(
-    alloc: Global,
-    rule: &Rule,
-    values: &[i128],
-    mask: &Wah,
-    steps: &mut Steps<L>,
-) -> Result<Vec<Bin>, AllocError>
-    requires same { length values.now ≡ length mask.now }
-    requires within { AllByRecursion IsInRange values.now }
-    ensures bins { IfOk result (λ bins. bins.items ≡ bins_of rule.now (cells mask.now values.now)) }
-    ensures steps { steps.new ≤ steps.old + words_of mask.now }
-{
-    let _rows = mask.len();
-    let gatherer = Gatherer::make(alloc, rule.copy(alloc)?);
-    let all = gatherer.add(values, mask, steps)?;
-    let bins = all.finish()?;
     Ok(bins)
 }

@@ -1,16 +1,12 @@
-//! The groups of a column's values, one for each key, and the rows of each group.
-ghost use Rattle.std.specs.Prelude.{◌≡◌, ◌+◌, ◌<◌, ◌≤◌, ◌==◌, ◌∷◌, [], ◌++◌, if◌then◌else◌, Some, None, map, length, replicate, slice_index_or, slice_set, vec_len, false, IfOk, OnOk, IfSome};
-ghost use Rattle.std.specs.List.{AllByRecursion, range_with_len};
+//! The groups of a column's values, one for each key.
+ghost use Rattle.std.specs.Prelude.{◌≡◌, ◌+◌, ◌<◌, ◌≤◌, ◌==◌, ◌∷◌, [], ◌++◌, if◌then◌else◌, Some, None, length, slice_index_or, slice_set, false, IfOk, OnOk, IfSome};
+ghost use Rattle.std.specs.List.{AllByRecursion};
 ghost use Rattle.wah_words.specs.Limits.{most_bits};
 ghost use Rattle.binning.specs.Gathered.{AreDistinct, is_in, place_in, keys_in, Knows, with_value};
-ghost use Rattle.binning.specs.Groups.{place_if, grown, with_row, rows_at, pairs_from, ByKey};
+ghost use Rattle.binning.specs.Groups.{place_if, grown, pairs_from, ByKey};
 
-use sqlite_items::Items;
+use crate::key_places::KeyPlaces;
 use std::alloc::{AllocError, Global};
-use std::collections::HashMap;
-
-/// The place of a row that has no value.
-pub(crate) const NO_PLACE: u32 = u32::MAX;
 
 /// The least and the greatest value of a key.
 #[derive(Clone, Copy, Debug)]
@@ -20,18 +16,36 @@ pub struct Group {
     pub greatest: i128,
 }
 
-/// The place of a key's group. The group of the row before, at `last`, is looked at first.
+/// The place `last`, where it is that of the key's group.
 #[inline(always)]
-fn find(known: &HashMap<i128, u32>, groups: &[Group], last: usize, key: i128) -> Option<u32>
-    requires knows { Knows known.now (keys_in groups.now) }
+fn if_at(groups: &[Group], last: usize, key: i128) -> Option<u32>
     requires few { length groups.now ≤ most_bits }
     requires distinct { AreDistinct (keys_in groups.now) }
-    ensures { result ≡ place_if key (keys_in groups.now) }
+    ensures { IfSome result (λ place. Some place ≡ place_if key (keys_in groups.now)) }
 {
     if last < groups.len() && groups[last].key == key {
         return Some(last as u32);
     }
-    known.get(&key).copied()
+    None
+}
+
+/// The place of a key's group. The group of the row before, at `last`, is looked at first, then the one that is
+/// guessed.
+#[inline(always)]
+fn find(known: &mut KeyPlaces, groups: &[Group], last: u32, key: i128) -> Option<u32>
+    requires knows { Knows known.old.map (keys_in groups.now) }
+    requires few { length groups.now ≤ most_bits }
+    requires distinct { AreDistinct (keys_in groups.now) }
+    ensures place { result ≡ place_if key (keys_in groups.now) }
+    ensures same { known.new.map ≡ known.old.map }
+{
+    if let Some(place) = if_at(groups, last as usize, key) {
+        return Some(place);
+    }
+    if let Some(place) = if_at(groups, known.guess(key) as usize, key) {
+        return Some(place);
+    }
+    known.place(key)
 }
 
 /// Adds a value to its group.
@@ -47,20 +61,20 @@ fn grow(groups: &mut Vec<Group>, place: usize, v: i128)
 
 /// A new group for a new key, and its place.
 fn add_group(
-    known: &mut HashMap<i128, u32>,
+    known: &mut KeyPlaces,
     groups: &mut Vec<Group>,
     key: i128,
     v: i128,
 ) -> Result<u32, AllocError>
-    requires knows { Knows known.old (keys_in groups.old.items) }
+    requires knows { Knows known.old.map (keys_in groups.old.items) }
     requires few { length groups.old.items < most_bits }
     requires absent { is_in key (keys_in groups.old.items) ≡ false }
     ensures groups { OnOk result (groups.new.items ≡ with_value groups.old.items key v) }
     ensures place { IfOk result (λ place. place ≡ length groups.old.items) }
-    ensures knows { OnOk result (Knows known.new (keys_in groups.new.items)) }
+    ensures knows { OnOk result (Knows known.new.map (keys_in groups.new.items)) }
 {
     let place = groups.len() as u32;
-    known.insert(key, place)?;
+    known.map.insert(key, place)?;
     groups.push(Group {
         key,
         least: v,
@@ -71,18 +85,18 @@ fn add_group(
 
 /// The place of a value's group, to which the value is added; a new group for a new key.
 pub(crate) fn place(
-    known: &mut HashMap<i128, u32>,
+    known: &mut KeyPlaces,
     groups: &mut Vec<Group>,
-    last: usize,
+    last: u32,
     key: i128,
     v: i128,
 ) -> Result<u32, AllocError>
-    requires knows { Knows known.old (keys_in groups.old.items) }
+    requires knows { Knows known.old.map (keys_in groups.old.items) }
     requires few { length groups.old.items < most_bits }
     requires distinct { AreDistinct (keys_in groups.old.items) }
     ensures groups { OnOk result (groups.new.items ≡ with_value groups.old.items key v) }
     ensures place { IfOk result (λ place. place ≡ place_in key (keys_in groups.old.items)) }
-    ensures knows { OnOk result (Knows known.new (keys_in groups.new.items)) }
+    ensures knows { OnOk result (Knows known.new.map (keys_in groups.new.items)) }
 {
     match find(known, groups, last, key) {
         Some(place) => {
@@ -91,61 +105,6 @@ pub(crate) fn place(
         }
         None => add_group(known, groups, key, v),
     }
-}
-
-/// How many rows have each of `count` places, so that there is room for them.
-fn counts(alloc: Global, places: &[u32], count: usize) -> Result<Vec<u32>, AllocError>
-    ensures { IfOk result (λ counts. vec_len counts ≡ count) }
-{
-    let mut counts = vec![in alloc; 0u32; count]?;
-    for place in places {
-        let at_place = *place as usize;
-        if at_place < count {
-            counts[at_place] = counts[at_place].saturating_add(1);
-        }
-    }
-    Ok(counts)
-}
-
-/// A list without a row for each place, with room for as many as are to come.
-fn rooms(alloc: Global, counts: &[u32]) -> Result<Vec<Items<u32>>, AllocError>
-    ensures { IfOk result (λ rows. rows.items ≡ replicate (length counts.now) []) }
-{
-    let mut rows = Vec::with_capacity(alloc, counts.len())?;
-    for count in counts {
-        rows.push(Items::from_vec(Vec::with_capacity(alloc, *count as usize)?))?;
-    }
-    Ok(rows)
-}
-
-/// Adds a row to those of its place, where there is such a place.
-#[inline(always)]
-fn put(rows: &mut Vec<Items<u32>>, place: usize, row: u32) -> Result<(), AllocError>
-    ensures { OnOk result (rows.new.items ≡ with_row rows.old.items place row) }
-{
-    if place >= rows.len() {
-        return Ok(());
-    }
-    let at_place = &mut rows[place];
-    at_place.push(row)?;
-    Ok(())
-}
-
-/// The rows of each place.
-pub(crate) fn rows_by_place(
-    alloc: Global,
-    places: &[u32],
-    count: usize,
-) -> Result<Vec<Items<u32>>, AllocError>
-    requires limit { length places.now ≤ most_bits }
-    ensures { IfOk result (λ rows. rows.items ≡ map (rows_at places.now) (range_with_len 0 count)) }
-{
-    let counts = counts(alloc, places, count)?;
-    let mut rows = rooms(alloc, &counts)?;
-    for (row, place) in places.iter().enumerate() {
-        put(&mut rows, *place as usize, row as u32)?;
-    }
-    Ok(rows)
 }
 
 /// A key and the place of its group.

@@ -1,11 +1,12 @@
 //! Rules, which give each value the key that decides its bin.
-ghost use Rattle.std.specs.Prelude.{◌≡◌, ◌+◌, ◌≤◌, count_by, length, IfOk};
+ghost use Rattle.std.specs.Prelude.{◌≡◌, ◌+◌, ◌≤◌, count_by, length, true, IfOk};
 ghost use Rattle.std.specs.List.{AllByRecursion};
 ghost use Rattle.wah_words.specs.Spelling.{words_of};
 ghost use Rattle.index_spec.specs.Language.{IsGivenBinning};
 ghost use Rattle.binning.specs.Spans.{IsInRange, int_le};
 ghost use Rattle.binning.specs.Keys.{key, keying_of, IsKeying, Rises};
 ghost use Rattle.binning.specs.Bins.{cells, present};
+ghost use Rattle.binning.specs.declared.rules.Keying.TheVariants.{Each};
 
 use crate::bounds::{weights, width_bounds};
 use crate::digits::leading;
@@ -116,6 +117,20 @@ impl Rule {
             Keying::Bounds(bounds) => count_at_most(bounds.as_slice(), v) as i128,
             Keying::Digits(digits) => leading(*digits, v),
         }
+    }
+
+    /// The rule by which each value is its own key.
+    pub(crate) fn each() -> Rule
+        ensures { result ≡ Each }
+    {
+        Rule { keys: Keying::Each }
+    }
+
+    /// Whether each value is its own key.
+    pub(crate) fn is_each(&self) -> bool
+        ensures { result ≡ true → self.now ≡ Each }
+    {
+        matches!(self.keys, Keying::Each)
     }
 
     /// The same rule again.

@@ -36,6 +36,21 @@ fn push_rows<L: Ledger>(
     Ok(())
 }
 
+/// The least and the greatest value and the rows of each bin.
+fn numbers_of<L: Ledger>(
+    alloc: Global,
+    found: &[Bin],
+    steps: &mut Steps<L>,
+) -> Result<Vec<i128>, AllocError> {
+    let mut numbers = Vec::new(alloc);
+    for bin in found {
+        numbers.push(bin.least)?;
+        numbers.push(bin.greatest)?;
+        push_rows(&mut numbers, &bin.rows, steps)?;
+    }
+    Ok(numbers)
+}
+
 /// The least and the greatest value and the rows of each bin of these values.
 fn numbers_of_bins<L: Ledger>(
     blank: Blank,
@@ -60,13 +75,37 @@ fn numbers_of_bins<L: Ledger>(
     }
     let rule = make_rule(alloc, binning, values, &mask, &mut steps)?;
     let found = bins(alloc, &rule, values, &mask, &mut steps)?;
-    let mut ends = Vec::new(alloc);
-    for bin in &found {
-        ends.push(bin.least)?;
-        ends.push(bin.greatest)?;
-        push_rows(&mut ends, &bin.rows, &mut steps)?;
+    Ok(Some(numbers_of(alloc, &found, &mut steps)?))
+}
+
+/// The same of values that come in two blocks, each value a bin.
+fn numbers_of_blocks<L: Ledger>(
+    blank: Blank,
+    alloc: Global,
+    first: &[i128],
+    second: &[i128],
+) -> Result<Option<Vec<i128>>, AllocError>
+    requires ledger { blank.name ≡ L.name }
+    requires parts { blank.parts ≡ L.parts }
+    requires some { 0 < blank.parts }
+    requires within { AllByRecursion IsInRange first.now }
+    requires also { AllByRecursion IsInRange second.now }
+{
+    let mut steps = Steps::<L>::new(blank);
+    let count = first.len();
+    if count == 0 || count > 30 || second.len() != count {
+        return Ok(None);
     }
-    Ok(Some(ends))
+    let mask = all_rows(alloc, count as u32)?;
+    if mask.len() as usize != count {
+        return Ok(None);
+    }
+    let rule = make_rule(alloc, &Binning::Each, first, &mask, &mut steps)?;
+    let gatherer = Gatherer::make(alloc, rule);
+    let gatherer = gatherer.add(first, &mask, &mut steps)?;
+    let gatherer = gatherer.add(second, &mask, &mut steps)?;
+    let found = gatherer.finish()?;
+    Ok(Some(numbers_of(alloc, &found, &mut steps)?))
 }
 
 #[test]
@@ -100,6 +139,20 @@ fn widths_are_cut(rt: HostRuntime) -> Result<(), Fail> {
     let wanted = [
         -1, -1, 0, 0, 1, 1, 2, 2, 4, 3, 4, 5, 6, 5, 6, 7, 9, 7, 8, 10, 11, 9, 10,
     ];
+    assert_eq!(rt; found.as_slice(), wanted.as_slice());
+    Ok(())
+}
+
+#[test]
+fn blocks_are_joined(rt: HostRuntime) -> Result<(), Fail> {
+    let alloc = rt.alloc();
+    let found = numbers_of_blocks::<Brand>(
+        rt.blank(),
+        alloc,
+        &[7, -2, 7, 9],
+        &[9, 7, 3, -2],
+    )?.ok_or("too many")?;
+    let wanted = [-2, -2, 1, 7, 3, 3, 6, 7, 7, 0, 2, 5, 9, 9, 3, 4];
     assert_eq!(rt; found.as_slice(), wanted.as_slice());
     Ok(())
 }

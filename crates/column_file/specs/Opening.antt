@@ -50,6 +50,13 @@ StopsMask rows (Mask words.OutOfMemory) = ⊥
 StopsMask rows (MaskLength want have) = (want ≡ rows) × (have ≢ rows)
 StopsMask rows fault = Unit {0}
 
+-- a fault of the bytes of a mask file, which are read before it is told
+abbrev pub IsOfMask : ColFault → Type 0
+IsOfMask (Mask fault) = Unit {0}
+IsOfMask MaskTrailing = Unit {0}
+IsOfMask (MaskLength want have) = Unit {0}
+IsOfMask fault = ⊥
+
 -- what opening a column of so many rows, of so many bytes each, may answer
 abbrev pub StopsOpening : ℕ → ℕ → ColFault → Type 0
 StopsOpening width rows Missing = Unit {0}

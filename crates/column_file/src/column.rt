@@ -7,7 +7,7 @@ ghost use Rattle.fb_outside.specs.Reads.{AddsOnly, AddsRead, IsWholeLook, whole_
 ghost use Rattle.fb_types.specs.Types.{width_of};
 ghost use Rattle.wah_words.specs.Bytes.{spelling};
 ghost use Rattle.answers.specs.Answers.{Answers};
-ghost use Rattle.column_file.specs.Opening.{StopsMask, StopsOpening, column_in, mask_in, opened_mask, told_by_files};
+ghost use Rattle.column_file.specs.Opening.{IsOfMask, StopsMask, StopsOpening, column_in, mask_in, opened_mask, told_by_files};
 ghost use Rattle.column_file.specs.Rows.{ReadsRows, StopsReading, rows_in};
 ghost use Rattle.column_file.specs.Values.{ValueFits, values_bytes, width_in};
 
@@ -58,6 +58,7 @@ pub fn open_column<S: Store>(
     ensures files { SameFiles (S.files store.old) (S.files store.new) }
     ensures reads { AddsOnly (IsWholeLook (S.files store.old) mask_name.now) (S.reads store.old) (S.reads store.new) }
     ensures once { OnOk result (IfSome (S.files store.old) (λ m. AddsRead (Some m) (S.reads store.old) (S.reads store.new) (whole_look m mask_name.now))) }
+    ensures refused_once { IfErr result (λ fault. IsOfMask fault → IfSome (S.files store.old) (λ m. AddsRead (Some m) (S.reads store.old) (S.reads store.new) (whole_look m mask_name.now))) }
 {
     let want = u64::from(rows) * number_width(ty) as u64;
     match store.len(name.as_str()) {
@@ -84,6 +85,7 @@ fn with_mask<S: Store>(
     ensures files { SameFiles (S.files store.old) (S.files store.new) }
     ensures reads { AddsOnly (IsWholeLook (S.files store.old) mask_name.now) (S.reads store.old) (S.reads store.new) }
     ensures once { OnOk result (IfSome (S.files store.old) (λ m. AddsRead (Some m) (S.reads store.old) (S.reads store.new) (whole_look m mask_name.now))) }
+    ensures refused_once { IfErr result (λ fault. IsOfMask fault → IfSome (S.files store.old) (λ m. AddsRead (Some m) (S.reads store.old) (S.reads store.new) (whole_look m mask_name.now))) }
 {
     let mask = match open_mask(alloc, store, mask_name, rows) {
         Ok(mask) => mask,

@@ -8,7 +8,7 @@ ghost use Rattle.wah_words.specs.Bytes.{spelling, vector_at};
 ghost use Rattle.wah_words.specs.Spelling.{words_of};
 ghost use Rattle.answers.specs.Answers.{Answers};
 ghost use Rattle.wah_words.specs.Limits.{most_bits};
-ghost use Rattle.column_file.specs.Opening.{StopsMask, StopsWriting, mask_in, to_its_end, told_by_files};
+ghost use Rattle.column_file.specs.Opening.{IsOfMask, StopsMask, StopsWriting, mask_in, to_its_end, told_by_files};
 
 use crate::fault::ColFault;
 use crate::values::put_bytes;
@@ -62,6 +62,7 @@ pub fn open_mask<S: Store>(
     ensures files { SameFiles (S.files store.old) (S.files store.new) }
     ensures reads { AddsOnly (IsWholeLook (S.files store.old) name.now) (S.reads store.old) (S.reads store.new) }
     ensures once { OnOk result (IfSome (S.files store.old) (λ m. AddsRead (Some m) (S.reads store.old) (S.reads store.new) (whole_look m name.now))) }
+    ensures refused_once { IfErr result (λ fault. IsOfMask fault → IfSome (S.files store.old) (λ m. AddsRead (Some m) (S.reads store.old) (S.reads store.new) (whole_look m name.now))) }
 {
     match file_bytes(alloc, store, name) {
         Ok(Some(bytes)) => mask_of(alloc, &bytes, rows),

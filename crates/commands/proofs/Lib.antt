@@ -3,3 +3,4 @@ pub mod Refusals
 pub mod RunLemmas
 pub mod LoadRunLemmas
 pub mod QuestionLemmas
+pub mod BuildRunLemmas

@@ -29,6 +29,7 @@ use Rattle.commands.specs.Effects.{IsOfCommand, LeavesAfter}
 use Rattle.commands.specs.Runs.{Answers, Cut, LoadRuns, LoadUnread, LoadUnstored, Loaded, Prints, Refuses, Runs, Stops, Unread, Unstored}
 use Rattle.commands.proofs.PrintLemmas.{not_read, some_input, some_told}
 use Rattle.commands.proofs.Refusals.{IsRefusal-load}
+use Rattle.commands.proofs.RunLemmas.{same_says}
 
 -- a load that goes through has its table as the definition's answer
 abbrev goes_gives : (load : Load) (left : Option (List ℕ)) (files : Option Files) (table : Table) (catalog : Catalog)
@@ -53,7 +54,7 @@ answers_load : (load : Load) (left : Option (List ℕ)) (files : Option Files) (
     → Runs (command.Loads load) left files before after status
 answers_load load left files before after status result valid g plain prints =
     Answers (outcome_of load result) (record { result = result; given = g; is = refl })
-    (record { input = g.situation.input; told = g.situation.input_told; holds = λ w h. outcome_in load left files w result valid h g })
+    (record { input = g.situation.input; told = g.situation.input_told; holds = λ w h. same_says (outcome_of load result) (load_outcome load g.situation.input w) (outcome_in load left files w result valid h g) })
     plain prints
 
 pub load_ran : (load : Load) (left : Option (List ℕ)) (old new : Option Files) (before after : Option (List ℕ)) (status : Status) → IsValidLoad load
@@ -203,11 +204,11 @@ loaded_runs load left old new before after status rows done prints =
 
 -- ---- the same in the words of the call
 
-pub call_leaves : (job : Option Job) (load : Load) (left : Option (List ℕ)) (old new : Option Files) (before after : Option (List ℕ)) (status : Status)
+pub call_load_leaves : (job : Option Job) (load : Load) (left : Option (List ℕ)) (old new : Option Files) (before after : Option (List ℕ)) (status : Status)
     → command_of job ≡ command.Loads load → IsValidLoad load → LoadRuns load left old new before after status
     → ForSomeInput left (λ bytes. (w : World) → StandsFor old w → LeavesAfter (command_outcome (command_of job) bytes w).effects w status new)
-call_leaves job load left old new before after status is valid runs = rw is (load_leaves load left old new before after status valid runs)
+call_load_leaves job load left old new before after status is valid runs = rw is (load_leaves load left old new before after status valid runs)
 
-pub call_keeps : (job : Option Job) (load : Load) (left : Option (List ℕ)) (old new : Option Files) (before after : Option (List ℕ)) (status : Status)
+pub call_load_keeps : (job : Option Job) (load : Load) (left : Option (List ℕ)) (old new : Option Files) (before after : Option (List ℕ)) (status : Status)
     → command_of job ≡ command.Loads load → LoadRuns load left old new before after status → ChangesAmong (IsOfCommand (command_of job)) old new
-call_keeps job load left old new before after status is runs = rw is (load_keeps load left old new before after status runs)
+call_load_keeps job load left old new before after status is runs = rw is (load_keeps load left old new before after status runs)

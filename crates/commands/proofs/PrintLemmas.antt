@@ -5,7 +5,7 @@ use Rattle.fb_outside.specs.Files.{Files}
 use Rattle.fb_outside.specs.Streams.{ForSomeInput, GrowsInPart}
 use Rattle.fb_outside.proofs.StreamLemmas.{GrowsInPart-none}
 use Rattle.statuses.specs.declared.Status.{Status}
-use Rattle.statuses.specs.declared.Status.TheVariants.{Done, Usage, BadSchema, BadInput, SchemaDiffers, BadQuery, NoDataset, Damaged, Limit, ReadFault, StoreFault, SinkFault, OutOfMemory}
+use Rattle.statuses.specs.declared.Status.TheVariants.{Done, Usage, BadSchema, BadInput, SchemaDiffers, BadQuery, BadSpec, NoDataset, Damaged, Limit, ReadFault, StoreFault, SinkFault, OutOfMemory}
 use Rattle.statuses.specs.Outcome.{Outcome}
 use Rattle.world.specs.World.{World}
 use Rattle.world.specs.Stands.{StandsFor}
@@ -77,6 +77,7 @@ not_silent (BadSchema column kind) e = refl
 not_silent (BadInput number field kind) e = refl
 not_silent (SchemaDiffers column) e = refl
 not_silent (BadQuery kind) e = refl
+not_silent (BadSpec kind) e = refl
 not_silent (NoDataset file) e = refl
 not_silent (Damaged file kind want have) e = refl
 not_silent (Limit what number limit) e = refl
@@ -116,6 +117,7 @@ yields_by command left (BadSchema column kind) r s = tt
 yields_by command left (BadInput number field kind) r s = tt
 yields_by command left (SchemaDiffers column) r s = tt
 yields_by command left (BadQuery kind) r s = tt
+yields_by command left (BadSpec kind) r s = tt
 yields_by command left (NoDataset file) r s = tt
 yields_by command left (Damaged file kind want have) r s = tt
 yields_by command left (Limit what number limit) r s = tt

@@ -17,9 +17,10 @@ use Rattle.ibis.specs.Count.{CountComes, CountsBy, IsCountIn, answer_of, asked_o
 use Rattle.ibis.proofs.WorldLemmas.{count_refused, list_is}
 use Rattle.ibis.specs.Listing.{ListComes, list_outcome, list_result, listed}
 use Rattle.commands.specs.Command.{Counts, Lists}
-use Rattle.commands.specs.Runs.{Answers, Prints, Runs, Unstored}
+use Rattle.commands.specs.Runs.{Answers, Prints, Runs, SaysSame, Unstored}
 use Rattle.commands.proofs.PrintLemmas.{some_input, some_told}
 use Rattle.commands.proofs.Refusals.{IsRefusal-count, IsRefusal-list}
+use Rattle.commands.proofs.RunLemmas.{same_says}
 
 -- ---- a count
 
@@ -36,7 +37,7 @@ pub declines : (dir query : List ℕ) (left : Option (List ℕ)) (files : Option
     → Runs (Counts dir query) left files before after status
 declines dir query left files before after status refusal path comes prints =
     Answers (refused refusal) (record { result = Err refusal; comes = comes; is = refl })
-    (record { input = some_input left; told = some_told left; holds = λ w h. refused_over dir query files refusal w path comes h })
+    (record { input = some_input left; told = some_told left; holds = λ w h. same_says (answer_of (Err refusal)) (count_outcome dir query w) (refused_over dir query files refusal w path comes h) })
     (IsRefusal-count dir query files refusal comes).no_fault prints
 
 pub counts_hits : (dir query : List ℕ) (left : Option (List ℕ)) (files : Option Files) (before after : Option (List ℕ)) (status : Status) (hits : ℕ)
@@ -44,7 +45,7 @@ pub counts_hits : (dir query : List ℕ) (left : Option (List ℕ)) (files : Opt
     → Prints Done (hits_line hits) before after status → Runs (Counts dir query) left files before after status
 counts_hits dir query left files before after status hits comes world prints =
     Answers (answer_of (Ok hits)) (record { result = Ok hits; comes = comes; is = refl })
-    (record { input = some_input left; told = some_told left; holds = λ w h. ap answer_of (sym (world w h)) })
+    (record { input = some_input left; told = some_told left; holds = λ w h. same_says (answer_of (Ok hits)) (count_outcome dir query w) (ap answer_of (sym (world w h))) })
     refl prints
 
 pub count_unstored : (dir query : List ℕ) (left : Option (List ℕ)) (files : Option Files) (before : Option (List ℕ))
@@ -61,9 +62,9 @@ list_over dir (Some m) result w path comes h =
     sym (ap listed (list_is m w dir h path result comes))
 
 list_answers : (dir : List ℕ) (left : Option (List ℕ)) (files : Option Files) (result : Result (List ℕ) Status) → IsPath dir
-    → ListComes dir files result → ForSomeInput left (λ input. (w : World) → StandsFor files w → listed result ≡ list_outcome dir w)
+    → ListComes dir files result → ForSomeInput left (λ input. (w : World) → StandsFor files w → SaysSame (listed result) (list_outcome dir w))
 list_answers dir left files result path comes =
-    record { input = some_input left; told = some_told left; holds = λ w h. list_over dir files result w path comes h }
+    record { input = some_input left; told = some_told left; holds = λ w h. same_says (listed result) (list_outcome dir w) (list_over dir files result w path comes h) }
 
 pub lists_lines : (dir : List ℕ) (left : Option (List ℕ)) (files : Option Files) (before after : Option (List ℕ)) (status : Status) (text : List ℕ)
     → IsPath dir → ListComes dir files (Ok text) → Prints Done text before after status → Runs (Lists dir) left files before after status

@@ -1,9 +1,10 @@
 -- What a command is refused with is a refusal: neither a fault nor `Done`.
-use Rattle.std.proofs.Common.{◌≡◌, ◌≢◌, ◌+◌, ℕ, Bool, true, false, List, length, nat_le, Option, Some, None, Result, Ok, Err, refl, sym, ap, subst, ◌∙◌, if◌then◌else◌, is_some}
+use Rattle.std.proofs.Common.{◌≡◌, ◌≢◌, ◌+◌, ◌==◌, ℕ, Bool, true, false, not, List, [], ◌∷◌, ◌++◌, length, nat_le, Option, Some, None, Result, Ok, Err, refl, sym, ap, subst, ◌∙◌, if◌then◌else◌, is_some}
+use Rattle.std.specs.List.{list_any}
 use Rattle.fb_outside.specs.Files.{Files}
 use Rattle.fb_types.specs.declared.cells.Cell.{Cell}
 use Rattle.fb_types.specs.declared.schemas.Column.{Column}
-use Rattle.fb_types.specs.SchemaText.{SchemaFault, read_schema}
+use Rattle.fb_types.specs.SchemaText.{SchemaFault, items_of, read_schema}
 use Rattle.fb_types.specs.Schemas.{place_of}
 use Rattle.fb_types.specs.Table.{Table}
 use Rattle.fb_types.specs.Types.{ends_of}
@@ -18,12 +19,21 @@ use Rattle.dataset.specs.declared.content.Dataset.{Dataset}
 use Rattle.dataset.specs.declared.fault.DamageKind.TheVariants.{Length}
 use Rattle.statuses.specs.declared.LimitKind.TheVariants as limit
 use Rattle.statuses.specs.declared.Status.{Status}
-use Rattle.statuses.specs.declared.Status.TheVariants.{BadQuery, Damaged, Done}
+use Rattle.statuses.specs.declared.Status.TheVariants.{BadQuery, BadSpec, Damaged, Done, Limit}
 use Rattle.statuses.specs.declared.Status.TheVariants as status
 use Rattle.statuses.specs.Outcome.{◌>>=◌}
 use Rattle.part_meta.specs.PartText.{most_rows}
 use Rattle.ardea.specs.Load.{Bytes, CutShort, Gives, NoFile, Reading, catalog_or_refusal, input_or_refusal, load_result, load_schema, load_table, most_input_bytes, reading_or_refusal, records_or_refusal, rows_or_refusal, schema_or_refusal, text_or_refusal, unless_refused, within_limit}
-use Rattle.ibis.specs.Count.{CountComes, CountsBy, asked_of, dataset_or_refusal}
+use Rattle.index_spec.specs.Language.{spec_of}
+use Rattle.index_spec.specs.declared.spec.Spec.{Spec}
+use Rattle.index_spec.specs.declared.spec.SpecKind.{SpecKind}
+use Rattle.index_spec.specs.declared.spec.SpecKind.TheVariants as spec
+use Rattle.statuses.specs.Opening.{damaged_status, dataset_or_refusal}
+use Rattle.ibis.specs.Count.{CountComes, CountsBy, asked_of}
+use Rattle.ibis_build.specs.Builds as builds
+use Rattle.ibis_build.specs.Builds.{Asked, spec_or_refusal}
+use Rattle.ibis_build.specs.Causes.{BuildComes, BuildsBy, Damages, IsRefused, Passes}
+use Rattle.ibis_build.specs.Columns.{can_have_index_at, chosen_columns, column_or_refusal, columns_behind, place_in}
 use Rattle.ibis.specs.Listing.{ListComes, list_result, listing}
 use Rattle.ibis.specs.declared.query.Below.{Below}
 use Rattle.ibis.specs.Query.{column_in, query_or_refusal, read_query, resolved, typed_or_refusal}
@@ -173,3 +183,65 @@ list_so dir found = step (dataset_or_refusal dir found) _ (dataset_so dir found)
 
 pub IsRefusal-list : (dir : List ℕ) (files : Option Files) (status : Status) → ListComes dir files (Err status) → IsRefusal status
 IsRefusal-list dir files status h = by_result (list_result dir h.found) status (list_so dir h.found) h.is
+
+-- ---- requests for indexes
+
+spec_so : (r : Result Spec SpecKind) → FailsSo (spec_or_refusal r)
+unfolding FailsSo
+spec_so (Ok spec) = tt
+spec_so (Err kind) = record { no_fault = refl; not_done = λ e. cc }
+
+unless_so : {A : Type 0} (why : Status) (b : Bool) (rest : Result A Status) → IsRefusal why → FailsSo rest → FailsSo (if b then Err why else rest)
+unfolding FailsSo
+unless_so why true rest h k = h
+unless_so why false rest h k = k
+
+column_so : (schema : List Column) (before : List ℕ) (place : Option ℕ) → FailsSo (column_or_refusal schema before place)
+unfolding FailsSo
+column_so schema before None = record { no_fault = refl; not_done = λ e. cc }
+column_so schema before (Some col) =
+    unless_so (BadSpec spec.WrongType) (not (can_have_index_at schema col)) _ (record { no_fault = refl; not_done = λ e. cc })
+    (unless_so (BadSpec spec.Repeated) (list_any (λ other. other == col) before) (Ok col) (record { no_fault = refl; not_done = λ e. cc }) tt)
+
+pieces_so : (schema : List Column) (pieces : List (List ℕ)) (before : List ℕ) → FailsSo (columns_behind schema before pieces)
+unfolding columns_behind
+pieces_so schema [] before = good before
+pieces_so schema (piece ∷ pieces) before =
+    step (column_or_refusal schema before (place_in schema piece)) _ (column_so schema before (place_in schema piece))
+    (λ col. pieces_so schema pieces (before ++ col ∷ []))
+
+chosen_so : (schema : List Column) (list : Option (List ℕ)) → FailsSo (chosen_columns schema list)
+chosen_so schema None = good _
+chosen_so schema (Some list) = pieces_so schema (items_of list) []
+
+request_so : (dir text : List ℕ) (list : Option (List ℕ)) (found : Found) → FailsSo (builds.asked_of dir text list found)
+unfolding builds.asked_of
+request_so dir text list found =
+    step (spec_or_refusal (spec_of text)) _ (spec_so (spec_of text))
+    (λ spec. step (dataset_or_refusal dir found) _ (dataset_so dir found)
+    (λ dataset. step (chosen_columns dataset.schema list) _ (chosen_so dataset.schema list)
+    (λ cols. good {A = Asked} (record { spec = spec; cols = cols }))))
+
+pub IsRefusal-asked : (dir text : List ℕ) (list : Option (List ℕ)) (found : Found) (status : Status) → builds.asked_of dir text list found ≡ Err status
+    → IsRefusal status
+IsRefusal-asked dir text list found status e = by_result (builds.asked_of dir text list found) status (request_so dir text list found) e
+
+refused_so : (files : Option Files) (dataset : Dataset) (asked : Asked) (status : Status) → IsRefused files dataset asked status → IsRefusal status
+refused_so files dataset asked status (Damages column damage among damaged is) =
+    record { no_fault = ap is_fault is; not_done = λ e. let bad : Damaged damage.file damage.kind damage.want damage.have ≡ Done = sym is ∙ e in cc }
+refused_so files dataset asked status (Passes place part column number listed among many is) =
+    record { no_fault = ap is_fault is; not_done = λ e. let bad : Limit limit.Bins number 1024 ≡ Done = sym is ∙ e in cc }
+
+build_by : (files : Option Files) (found : Found) (r : Result Asked Status) (status : Status) → FailsSo r → BuildsBy files found r (Err status)
+    → IsRefusal status
+build_by files found (Err why) status h is =
+    let same : why ≡ status = let e : ◌≡◌ {A = Result ℕ Status} (Err status) (Err why) = is in cc in
+    subst IsRefusal same (at_refusal Asked why h)
+build_by files Absent (Ok asked) status h none = absurd none
+build_by files (Broken damage) (Ok asked) status h none = absurd none
+build_by files (There dataset) (Ok asked) status h why = refused_so files dataset asked status why
+
+pub IsRefusal-build : (dir text : List ℕ) (list : Option (List ℕ)) (files : Option Files) (status : Status) → BuildComes dir text list files (Err status)
+    → IsRefusal status
+IsRefusal-build dir text list files status h =
+    build_by files h.found (builds.asked_of dir text list h.found) status (request_so dir text list h.found) h.builds

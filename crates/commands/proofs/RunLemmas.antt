@@ -1,8 +1,9 @@
 -- From how a command ran to what is said of its status and of what it printed.
 use Rattle.std.proofs.Common.{◌≡◌, ◌≢◌, ◌⊎◌, inl, inr, ℕ, Bool, true, false, List, [], length, Option, Some, None, IfSome, Result, Ok, Err, refl, sym, ap, subst, ◌∙◌, arith}
 use Rattle.fb_outside.specs.Causes.{HasCause}
-use Rattle.fb_outside.specs.Files.{Files, SameFiles}
-use Rattle.fb_outside.specs.Streams.{ForSomeInput}
+use Rattle.fb_outside.specs.Files.{ChangesAmong, Files, SameFiles}
+use Rattle.fb_outside.proofs.FileLemmas.{ChangesAmong-same}
+use Rattle.fb_outside.specs.Streams.{ForSomeInput, Grows, GrowsInPart}
 use Rattle.command_words.specs.declared.Job.{Job}
 use Rattle.command_words.specs.declared.Task.{Task}
 use Rattle.command_words.specs.declared.Task.TheVariants as task
@@ -16,13 +17,25 @@ use Rattle.statuses.specs.Lines.{line_of}
 use Rattle.statuses.specs.Outcome.{Outcome, refused}
 use Rattle.ibis.specs.Count.{answer_of, asked_of, count_outcome, counted}
 use Rattle.ibis.specs.Listing.{list_outcome, list_result, listed}
-use Rattle.commands.specs.Command.{Command, Counts, Lists, Loads, Unknown, command_of, command_of_task, command_outcome}
-use Rattle.commands.specs.Reply.{Replies, is_fault}
-use Rattle.commands.specs.Effects.{LeavesAfter}
+use Rattle.commands.specs.Command.{Builds, Command, Counts, Lists, Loads, Unknown, command_of, command_of_task, command_outcome}
+use Rattle.commands.specs.Reply.{Replies, RepliesBy, is_fault}
+use Rattle.commands.specs.Effects.{IsOfCommand, KeepsRefused, LeavesAfter}
 use Rattle.commands.specs.Causes.{ComesTo, HasCauseIn, Says, is_silent}
 use Rattle.commands.specs.Order.{Yields, asks_store, takes_input}
-use Rattle.commands.specs.Runs.{Answers, Prints, Runs, Stops, Unread, Unstored}
+use Rattle.commands.specs.Runs.{Answers, Leaves, Prints, Runs, SaysSame, Stops, Unread, Unstored}
 use Rattle.commands.proofs.PrintLemmas.{Replies-prints, Replies-quiet, cause_printed, not_read, says_printed, says_silent, some_input, some_told, yields_printed}
+
+-- what says the same is the same reply
+pub same_says : (reply other : Outcome) → reply ≡ other → SaysSame reply other
+same_says reply other e = record { status = ap (λ (o : Outcome). o.status) e; text = ap (λ (o : Outcome). o.text) e }
+
+replies_same : (reply other : Outcome) (status : Status) (before after : Option (List ℕ)) → SaysSame reply other → Replies reply status before after
+    → Replies other status before after
+replies_same reply other status before after same h = by (is_fault status) h
+  where
+    by : (b : Bool) → RepliesBy b reply status before after → RepliesBy b other status before after
+    by true part = subst (GrowsInPart before after) same.text part
+    by false (is, grows) = (is ∙ same.status, subst (Grows before after) same.text grows)
 
 module _ (command : Command) (left : Option (List ℕ)) (files : Option Files) (before after : Option (List ℕ)) (status : Status) where
   quiet : (status : Status) → is_fault status ≡ true → after ≡ before
@@ -40,7 +53,9 @@ module _ (command : Command) (left : Option (List ℕ)) (files : Option Files) (
       record {
         input = world.input;
         told = world.told;
-        holds = λ w h. subst (λ (o : Outcome). Replies o status before after) (world.holds w h) (Replies-prints reply status before after plain prints);
+        holds =
+            λ w h. replies_same reply (command_outcome command world.input w) status before after (world.holds w h)
+            (Replies-prints reply status before after plain prints);
       }
   run_replies (Unread takes same is) = quiet status (ap is_fault is) same
   run_replies (Unstored asks same is) = quiet status (ap is_fault is) same
@@ -76,6 +91,7 @@ module _ (command : Command) (left : Option (List ℕ)) (files : Option Files) (
 pub IsQuestion : Command → Type 0
 IsQuestion (Loads load) = ⊥
 IsQuestion (Counts dir query) = Unit {0}
+IsQuestion (Builds dir text list) = ⊥
 IsQuestion (Lists dir) = Unit {0}
 IsQuestion Unknown = Unit {0}
 
@@ -91,6 +107,7 @@ pub no_effects : (command : Command) (input : List ℕ) (w : World) → IsQuesti
 unfolding IsQuestion
 no_effects (Loads load) input w h = absurd h
 no_effects (Counts dir query) input w h = answer_none (counted (asked_of dir query (found_in w dir)) (content_at w dir))
+no_effects (Builds dir text list) input w h = absurd h
 no_effects (Lists dir) input w h = listed_none (list_result dir (found_in w dir))
 no_effects Unknown input w h = refl
 
@@ -98,6 +115,7 @@ pub question_takes : (command : Command) → IsQuestion command → takes_input 
 unfolding IsQuestion
 question_takes (Loads load) h = absurd h
 question_takes (Counts dir query) h = refl
+question_takes (Builds dir text list) h = absurd h
 question_takes (Lists dir) h = refl
 question_takes Unknown h = refl
 
@@ -113,22 +131,30 @@ leaves_same effects w status old new none h same =
       none = λ e. refl;
     })
 
-pub question_leaves : (command : Command) (left : Option (List ℕ)) (old new : Option Files) (status : Status) → IsQuestion command → SameFiles old new
-    → ForSomeInput left (λ bytes. (w : World) → StandsFor old w → LeavesAfter (command_outcome command bytes w).effects w status new)
-question_leaves command left old new status question same =
+keeps_same : (command : Command) (old new : Option Files) → IsQuestion command → SameFiles old new → KeepsRefused command old new
+unfolding IsQuestion
+keeps_same (Loads load) old new h same = absurd h
+keeps_same (Counts dir query) old new h same = same
+keeps_same (Builds dir text list) old new h same = absurd h
+keeps_same (Lists dir) old new h same = same
+keeps_same Unknown old new h same = same
+
+-- a question leaves the files
+pub question_leaves : (command : Command) (old new : Option Files) (status : Status) → IsQuestion command → SameFiles old new → Leaves command old new status
+question_leaves command old new status question same =
     record {
-      input = some_input left;
-      told = some_told left;
-      holds = λ w h. leaves_same (command_outcome command (some_input left) w).effects w status old new (no_effects command (some_input left) w question) h same;
+      leaves = λ input w h. leaves_same (command_outcome command input w).effects w status old new (no_effects command input w question) h same;
+      kept = ChangesAmong-same old new same;
+      refused = λ plain other. keeps_same command old new question same;
     }
 
 -- its input isn't looked at, and so doesn't fail
-pub question_read : (command : Command) (left : Option (List ℕ)) (files : Option Files) (before after : Option (List ℕ)) (status : Status) (i : ℕ)
-    → IsQuestion command → Runs command left files before after status → HasCause i i (status ≡ ReadFault)
-question_read command left files before after status i question runs =
+pub untaken_read : (command : Command) (left : Option (List ℕ)) (files : Option Files) (before after : Option (List ℕ)) (status : Status) (i : ℕ)
+    → takes_input command ≡ false → Runs command left files before after status → HasCause i i (status ≡ ReadFault)
+untaken_read command left files before after status i none runs =
     record {
       later = omega arith;
-      rose = λ e. absurd (run_unread command left files before after status (question_takes command question) runs e);
+      rose = λ e. absurd (run_unread command left files before after status none runs e);
       told = λ never. refl;
     }
 
@@ -136,7 +162,7 @@ question_read command left files before after status i question runs =
 pub usage_runs : (left : Option (List ℕ)) (files : Option Files) (before after : Option (List ℕ)) (status : Status)
     → Prints Usage (line_of Usage) before after status → Runs Unknown left files before after status
 usage_runs left files before after status prints =
-    Answers (refused Usage) refl (record { input = some_input left; told = some_told left; holds = λ w h. refl }) refl prints
+    Answers (refused Usage) refl (record { input = some_input left; told = some_told left; holds = λ w h. same_says (refused Usage) (refused Usage) refl }) refl prints
 
 -- ---- the same in the words of the call
 
@@ -154,29 +180,43 @@ module _ (job : Option Job) (command : Command) (is : command_of job ≡ command
   pub call_yields : Yields (command_of job) left status
   call_yields = rw is (run_yields command left files before after status runs)
 
-  pub call_leaves_same : (new : Option Files) → IsQuestion command → SameFiles files new
+  pub call_leaves : (new : Option Files) → Leaves command files new status
       → ForSomeInput left (λ bytes. (w : World) → StandsFor files w → LeavesAfter (command_outcome (command_of job) bytes w).effects w status new)
-  call_leaves_same new question same = rw is (question_leaves command left files new status question same)
+  call_leaves new h =
+      record { input = some_input left; told = some_told left; holds = λ w k. rw is (h.leaves (some_input left) w k) }
 
-  pub call_read : (i : ℕ) → IsQuestion command → HasCause i i (status ≡ ReadFault)
-  call_read i question = question_read command left files before after status i question runs
+  pub call_kept : (new : Option Files) → Leaves command files new status → ChangesAmong (IsOfCommand (command_of job)) files new
+  call_kept new h = rw is h.kept
 
-  pub call_end : {P : Type 0} → IsQuestion command → takes_input (command_of job) ≡ true → P
-  call_end question takes = let bad : false ≡ true = sym (ap takes_input is ∙ question_takes command question) ∙ takes in absurd (cc)
+  pub call_refused : (new : Option Files) → Leaves command files new status → is_fault status ≡ false → status ≢ Done → KeepsRefused (command_of job) files new
+  call_refused new h plain other = rw is (h.refused plain other)
 
--- what is asked of a dataset changes no file
-pub task_question : (dir : List ℕ) (asked : Task) → IsQuestion (command_of_task dir asked)
+  pub call_read : (i : ℕ) → takes_input command ≡ false → HasCause i i (status ≡ ReadFault)
+  call_read i none = untaken_read command left files before after status i none runs
+
+  pub call_end : {P : Type 0} → takes_input command ≡ false → takes_input (command_of job) ≡ true → P
+  call_end none takes = let bad : false ≡ true = sym (ap takes_input is ∙ none) ∙ takes in absurd (cc)
+
+-- what is asked of a dataset takes no input
+pub task_takes : (dir : List ℕ) (asked : Task) → takes_input (command_of_task dir asked) ≡ false
+task_takes dir (task.Answer query true) = refl
+task_takes dir (task.Answer query false) = refl
+task_takes dir (task.Estimate query) = refl
+task_takes dir (task.Build spec columns) = refl
+task_takes dir task.Check = refl
+task_takes dir task.List = refl
+
+pub unknown_leaves : (files : Option Files) (status : Status) → Leaves Unknown files files status
 unfolding IsQuestion
-task_question dir (task.Answer query true) = tt
-task_question dir (task.Answer query false) = tt
-task_question dir (task.Estimate query) = tt
-task_question dir (task.Build spec columns) = tt
-task_question dir task.Check = tt
-task_question dir task.List = tt
+unknown_leaves files status = question_leaves Unknown files files status tt refl
 
-pub unknown_question : IsQuestion Unknown
+pub count_leaves : (dir query : List ℕ) (old new : Option Files) (status : Status) → SameFiles old new → Leaves (Counts dir query) old new status
 unfolding IsQuestion
-unknown_question = tt
+count_leaves dir query old new status same = question_leaves (Counts dir query) old new status tt same
+
+pub list_leaves : (dir : List ℕ) (old new : Option Files) (status : Status) → SameFiles old new → Leaves (Lists dir) old new status
+unfolding IsQuestion
+list_leaves dir old new status same = question_leaves (Lists dir) old new status tt same
 
 -- the same of a command that is that one
 pub runs_at : (asked command : Command) (left : Option (List ℕ)) (files : Option Files) (before after : Option (List ℕ)) (status : Status)
@@ -186,3 +226,6 @@ runs_at asked command left files before after status is runs = subst (λ (c : Co
 -- the job that is asked for, of what is known of it
 pub job_at : (asked : Option Job) (found raw job : Job) → asked ≡ Some found → raw ≡ job → found ≡ raw → asked ≡ Some job
 job_at asked found raw job is at same = is ∙ ap Some (same ∙ at)
+
+pub leaves_at : (asked command : Command) (old new : Option Files) (status : Status) → asked ≡ command → Leaves command old new status → Leaves asked old new status
+leaves_at asked command old new status is h = subst (λ (c : Command). Leaves c old new status) (sym is) h

@@ -1,15 +1,17 @@
 -- Why a command ended with its status, and what it printed, over any files.
-use Rattle.std.specs.Prelude.{◌≡◌, ◌⊎◌, ℕ, Bool, true, false, List, Option, Result}
+use Rattle.std.specs.Prelude.{◌≡◌, ◌⊎◌, ℕ, Bool, true, false, List, [], Option, Result, Ok, Err}
 use Rattle.fb_outside.specs.Files.{Files}
 use Rattle.fb_types.specs.Table.{Table}
 use Rattle.command_words.specs.declared.Load.{Load}
 use Rattle.statuses.specs.declared.Status.{Status}
-use Rattle.statuses.specs.declared.Status.TheVariants.{Usage, ReadFault, StoreFault, OutOfMemory}
+use Rattle.statuses.specs.declared.Status.TheVariants.{Done, Usage, ReadFault, StoreFault, OutOfMemory}
 use Rattle.statuses.specs.Outcome.{Outcome, refused}
 use Rattle.ardea.specs.Load.{Gives, outcome_of}
 use Rattle.ibis.specs.Count.{CountComes, answer_of}
 use Rattle.ibis.specs.Listing.{ListComes, listed}
-use Rattle.commands.specs.Command.{Command, Loads, Counts, Lists, Unknown}
+use Rattle.ibis_build.specs.Builds.{built_line}
+use Rattle.ibis_build.specs.Causes.{BuildComes}
+use Rattle.commands.specs.Command.{Command, Loads, Counts, Builds, Lists, Unknown}
 use Rattle.commands.specs.Reply.{Replies, is_fault}
 
 -- what a load comes to: the definition's answer for some input and some files, which are those that source and store tell
@@ -24,6 +26,17 @@ pub record CountComesTo (dir query : List ℕ) (files : Option Files) (reply : O
   pub comes : CountComes dir query files result
   pub is : reply ≡ answer_of result
 
+-- what is told of a request for indexes; what it does is said of the files
+abbrev pub told_of : Result ℕ Status → Outcome
+told_of (Ok count) = record { status = Done; text = built_line count; effects = [] }
+told_of (Err status) = refused status
+
+-- a request for indexes
+pub record BuildComesTo (dir text : List ℕ) (list : Option (List ℕ)) (files : Option Files) (reply : Outcome) : Type 0 where
+  pub result : Result ℕ Status
+  pub comes : BuildComes dir text list files result
+  pub is : reply ≡ told_of result
+
 -- and a listing
 pub record ListComesTo (dir : List ℕ) (files : Option Files) (reply : Outcome) : Type 0 where
   pub result : Result (List ℕ) Status
@@ -34,6 +47,7 @@ pub record ListComesTo (dir : List ℕ) (files : Option Files) (reply : Outcome)
 abbrev pub ComesTo : Command → Option (List ℕ) → Option Files → Outcome → Type 0
 ComesTo (Loads load) left files reply = LoadComesTo load left files reply
 ComesTo (Counts dir query) left files reply = CountComesTo dir query files reply
+ComesTo (Builds dir text list) left files reply = BuildComesTo dir text list files reply
 ComesTo (Lists dir) left files reply = ListComesTo dir files reply
 ComesTo Unknown left files reply = reply ≡ refused Usage
 

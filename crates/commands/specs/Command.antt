@@ -11,11 +11,13 @@ use Rattle.statuses.specs.Outcome.{Outcome, refused}
 use Rattle.ardea.specs.Load.{load_outcome}
 use Rattle.ibis.specs.Count.{count_outcome}
 use Rattle.ibis.specs.Listing.{list_outcome}
+use Rattle.ibis_build.specs.Builds.{build_outcome}
 
--- a load, a question for a count, a listing; and words that are no request, or ask for what isn't there as yet
+-- a load, a question for a count, a request for indexes, a listing; and words that are no request, or ask for what isn't there as yet
 pub data Command : Type 0 where
   Loads : (load : Load) → Command
   Counts : (dir query : List ℕ) → Command
+  Builds : (dir text : List ℕ) (list : Option (List ℕ)) → Command
   Lists : (dir : List ℕ) → Command
   Unknown : Command
 
@@ -23,7 +25,7 @@ abbrev pub command_of_task : List ℕ → Task → Command
 command_of_task dir (task.Answer query false) = Counts dir query
 command_of_task dir (task.Answer query true) = Unknown
 command_of_task dir (task.Estimate query) = Unknown
-command_of_task dir (task.Build spec columns) = Unknown
+command_of_task dir (task.Build spec columns) = Builds dir spec columns
 command_of_task dir task.Check = Unknown
 command_of_task dir task.List = Lists dir
 
@@ -39,5 +41,6 @@ command_of (Some (Gen rows seed)) = Unknown
 abbrev pub command_outcome : Command → List ℕ → World → Outcome
 command_outcome (Loads load) input world = load_outcome load input world
 command_outcome (Counts dir query) input world = count_outcome dir query world
+command_outcome (Builds dir text list) input world = build_outcome dir text list world
 command_outcome (Lists dir) input world = list_outcome dir world
 command_outcome Unknown input world = refused Usage

@@ -2,7 +2,7 @@
 use Rattle.std.specs.Prelude.{◌≡◌, ◌⊎◌, ℕ, Bool, true, false, List, Option}
 use Rattle.fb_outside.specs.Streams.{Grows, GrowsInPart}
 use Rattle.statuses.specs.declared.Status.{Status}
-use Rattle.statuses.specs.declared.Status.TheVariants.{Done, Usage, BadSchema, BadInput, SchemaDiffers, BadQuery, NoDataset, Damaged, Limit, ReadFault, StoreFault, SinkFault, OutOfMemory}
+use Rattle.statuses.specs.declared.Status.TheVariants.{Done, Usage, BadSchema, BadInput, SchemaDiffers, BadQuery, BadSpec, NoDataset, Damaged, Limit, ReadFault, StoreFault, SinkFault, OutOfMemory}
 use Rattle.statuses.specs.Outcome.{Outcome}
 
 -- a status that prints nothing more, to which every other yields: the outside failed, or memory ran out
@@ -13,6 +13,7 @@ is_fault (BadSchema column kind) = false
 is_fault (BadInput number field kind) = false
 is_fault (SchemaDiffers column) = false
 is_fault (BadQuery kind) = false
+is_fault (BadSpec kind) = false
 is_fault (NoDataset file) = false
 is_fault (Damaged file kind want have) = false
 is_fault (Limit what number limit) = false

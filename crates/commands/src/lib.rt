@@ -7,7 +7,7 @@ mod questions;
 
 ghost use Rattle.std.specs.Prelude.{◌≡◌, ◌≢◌, true, false, None, Some, IfSome};
 ghost use Rattle.fb_outside.specs.Causes.{HasCause};
-ghost use Rattle.fb_outside.specs.Files.{ChangesAmong, SameFiles};
+ghost use Rattle.fb_outside.specs.Files.{ChangesAmong};
 ghost use Rattle.fb_outside.specs.Reads.{AddsOnly};
 ghost use Rattle.fb_outside.specs.Streams.{ForSomeInput, IsAtEnd};
 ghost use Rattle.command_words.specs.Valid.{IsValid, IsValidLoad};
@@ -15,7 +15,7 @@ ghost use Rattle.world.specs.World.{World};
 ghost use Rattle.world.specs.Stands.{StandsFor};
 ghost use Rattle.commands.specs.Command.{command_of, command_outcome};
 ghost use Rattle.commands.specs.Reply.{Replies, is_fault};
-ghost use Rattle.commands.specs.Effects.{IsOfCommand, LeavesAfter};
+ghost use Rattle.commands.specs.Effects.{IsOfCommand, KeepsRefused, LeavesAfter};
 ghost use Rattle.commands.specs.Causes.{ComesTo, HasCauseIn, Says};
 ghost use Rattle.commands.specs.Looks.{IsLookOf};
 ghost use Rattle.commands.specs.Order.{Yields, takes_input};
@@ -55,9 +55,11 @@ pub fn run_command<I: Source, S: Store, K: Sink, L: Ledger>(
         → LeavesAfter (command_outcome (command_of asked.now) bytes world).effects world result (S.files store.new)) }
     ensures end { takes_input (command_of asked.now) ≡ true → result ≡ Status.Done → IsAtEnd (I.left input.new) }
 
-    // Over every store: only files of the dataset that a load names change, and none where it is refused.
+    // Over every store: only files of the dataset that a load names change, and indexes of columns that are asked for; and none
+    // where the command is refused, but for the indexes that were built before one that is refused.
     ensures kept { ChangesAmong (IsOfCommand (command_of asked.now)) (S.files store.old) (S.files store.new) }
-    ensures refused { is_fault result ≡ false → result ≢ Status.Done → SameFiles (S.files store.old) (S.files store.new) }
+    ensures refused { is_fault result ≡ false → result ≢ Status.Done
+        → KeepsRefused (command_of asked.now) (S.files store.old) (S.files store.new) }
 
     // Each added read is of a file of that command.
     ensures reads { AddsOnly (IsLookOf (command_of asked.now)) (S.reads store.old) (S.reads store.new) }
@@ -97,7 +99,8 @@ fn run_job<I: Source, S: Store, K: Sink, L: Ledger>(
         → LeavesAfter (command_outcome (command_of (Some job.now)) bytes world).effects world result (S.files store.new)) }
     ensures end { takes_input (command_of (Some job.now)) ≡ true → result ≡ Status.Done → IsAtEnd (I.left input.new) }
     ensures kept { ChangesAmong (IsOfCommand (command_of (Some job.now))) (S.files store.old) (S.files store.new) }
-    ensures refused { is_fault result ≡ false → result ≢ Status.Done → SameFiles (S.files store.old) (S.files store.new) }
+    ensures refused { is_fault result ≡ false → result ≢ Status.Done
+        → KeepsRefused (command_of (Some job.now)) (S.files store.old) (S.files store.new) }
     ensures reads { AddsOnly (IsLookOf (command_of (Some job.now))) (S.reads store.old) (S.reads store.new) }
     ensures causes { HasCauseIn (ComesTo (command_of (Some job.now)) (I.left input.old) (S.files store.old)) result }
     ensures prints { Says (ComesTo (command_of (Some job.now)) (I.left input.old) (S.files store.old)) result

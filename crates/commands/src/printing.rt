@@ -5,6 +5,7 @@ ghost use Rattle.fb_outside.specs.Causes.{HasCause};
 ghost use Rattle.statuses.specs.Lines.{line_of};
 ghost use Rattle.ardea.specs.Load.{loaded_line};
 ghost use Rattle.ibis.specs.Count.{hits_line};
+ghost use Rattle.ibis_build.specs.Builds.{built_line};
 ghost use Rattle.commands.specs.Reply.{is_fault};
 ghost use Rattle.commands.specs.Runs.{Prints};
 
@@ -58,6 +59,24 @@ fn hits_text(alloc: Global, hits: u64) -> Result<String, AllocError>
     ensures { IfOk result (λ line. string_bytes line ≡ hits_line hits) }
 {
     format!(in alloc; "hits {hits}\n")
+}
+
+/// Prints how many indexes were built.
+pub(crate) fn print_built<K: Sink>(alloc: Global, out: &mut K, count: u64) -> Status
+    ensures cause { HasCause (K.faults out.old) (K.faults out.new) (result ≡ Status.SinkFault) }
+    ensures prints { Prints Status.Done (built_line count) (K.written out.old) (K.written out.new) result }
+{
+    match built_text(alloc, count) {
+        Ok(line) => print_text(out, line.as_bytes(), Status::Done),
+        Err(_) => Status::OutOfMemory,
+    }
+}
+
+#[tactic(auto, unfolding(ibis_build::specs::Builds::built_line))]
+fn built_text(alloc: Global, count: u64) -> Result<String, AllocError>
+    ensures { IfOk result (λ line. string_bytes line ≡ built_line count) }
+{
+    format!(in alloc; "built {count} indexes\n")
 }
 
 /// Prints a text, and ends so unless printing fails.

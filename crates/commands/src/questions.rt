@@ -1,4 +1,4 @@
-//! What is asked of a dataset: commands that take no input and change no file.
+//! What is asked of a dataset: commands that take no input.
 
 ghost use Rattle.std.specs.Prelude.{◌≡◌, ℕ, IsUtf8, List, Option};
 ghost use Rattle.fb_outside.specs.Causes.{HasCause};
@@ -8,15 +8,17 @@ ghost use Rattle.fb_outside.specs.Reads.{AddsOnly};
 ghost use Rattle.command_words.specs.Valid.{IsValidTask};
 ghost use Rattle.dataset.specs.Opened.{IsTextLook};
 ghost use Rattle.ibis.specs.Looks.{IsCountLook};
+ghost use Rattle.ibis_build.specs.Looks.{IsBuildLook};
 ghost use Rattle.commands.specs.Command.{Counts, Lists, command_of_task};
 ghost use Rattle.commands.specs.Looks.{IsLookOf};
-ghost use Rattle.commands.specs.Runs.{Runs};
+ghost use Rattle.commands.specs.Runs.{BuildRuns, Leaves, Runs};
 
-use crate::printing::{print_hits, print_text, refuse};
+use crate::printing::{print_built, print_hits, print_text, refuse};
 use command_words::Task;
 use fb_outside::{FileName, Sink, Store};
 use fb_types::Label;
 use ibis::{count, list};
+use ibis_build::build_indexes;
 use statuses::{Status, Unanswered};
 use std::alloc::Global;
 use std::sync::ledger::Ledger;
@@ -35,17 +37,17 @@ pub(crate) fn run_task<S: Store, K: Sink, L: Ledger>(
     requires valid { IsValidTask task.now }
     ensures runs { (left : Option (List ℕ)) → Runs (command_of_task dir.now task.now) left (S.files store.old)
         (K.written out.old) (K.written out.new) result }
-    ensures files { SameFiles (S.files store.old) (S.files store.new) }
+    ensures leaves { Leaves (command_of_task dir.now task.now) (S.files store.old) (S.files store.new) result }
     ensures reads { AddsOnly (IsLookOf (command_of_task dir.now task.now)) (S.reads store.old) (S.reads store.new) }
     ensures store_cause { HasCause (S.faults store.old) (S.faults store.new) (result ≡ Status.StoreFault) }
     ensures print_cause { HasCause (K.faults out.old) (K.faults out.new) (result ≡ Status.SinkFault) }
 {
     match task {
         Task::Answer { query, tell: false } => run_count(alloc, dir, query, store, out, steps),
+        Task::Build { spec, columns } => run_build(alloc, dir, spec, columns, store, out, steps),
         Task::List => run_list(alloc, dir, store, out),
         Task::Answer { tell: true, .. } => refuse(alloc, out, Status::Usage),
         Task::Estimate { .. } => refuse(alloc, out, Status::Usage),
-        Task::Build { .. } => refuse(alloc, out, Status::Usage),
         Task::Check => refuse(alloc, out, Status::Usage),
     }
 }
@@ -70,6 +72,32 @@ fn run_count<S: Store, K: Sink, L: Ledger>(
 {
     match count(alloc, dir, query, store, steps) {
         Ok(hits) => print_hits(alloc, out, hits),
+        Err(Unanswered::Refused(status)) => refuse(alloc, out, status),
+        Err(Unanswered::StoreFault) => Status::StoreFault,
+        Err(Unanswered::OutOfMemory) => Status::OutOfMemory,
+    }
+}
+
+/// Builds indexes by a specification, of the columns that a list names or of all that can have one, and prints how many.
+fn run_build<S: Store, K: Sink, L: Ledger>(
+    alloc: Global,
+    dir: &FileName,
+    spec: &Label,
+    columns: &Option<Label>,
+    store: &mut S,
+    out: &mut K,
+    steps: &mut Steps<L>,
+) -> Status
+    requires path { IsPath dir.now }
+    requires text { IsUtf8 spec.now }
+    ensures runs { BuildRuns dir.now spec.now columns.now (S.files store.old) (S.files store.new)
+        (K.written out.old) (K.written out.new) result }
+    ensures reads { AddsOnly (IsBuildLook dir.now columns.now) (S.reads store.old) (S.reads store.new) }
+    ensures store_cause { HasCause (S.faults store.old) (S.faults store.new) (result ≡ Status.StoreFault) }
+    ensures print_cause { HasCause (K.faults out.old) (K.faults out.new) (result ≡ Status.SinkFault) }
+{
+    match build_indexes(alloc, dir, spec, columns, store, steps) {
+        Ok(count) => print_built(alloc, out, count),
         Err(Unanswered::Refused(status)) => refuse(alloc, out, status),
         Err(Unanswered::StoreFault) => Status::StoreFault,
         Err(Unanswered::OutOfMemory) => Status::OutOfMemory,

@@ -1,21 +1,18 @@
 -- A dataset that grew by a load is one, and its files are those of the load.
-use Rattle.std.proofs.Common.{◌≡◌, ◌≢◌, ◌<◌, ◌≤◌, ◌+◌, ℕ, List, [], ◌∷◌, ◌++◌, Option, Some, None, Result, Ok, Err, OnOk, is_err, false, length, map, refl, sym, ap, subst, ◌∙◌, arith, length-append}
-use Rattle.std.specs.List.{All, AllPairs, flat_map, range_with_len}
+use Rattle.std.proofs.Common.{◌≡◌, ◌<◌, ◌≤◌, ◌+◌, ℕ, List, [], ◌∷◌, ◌++◌, Option, Result, Ok, Err, OnOk, is_err, false, length, map, refl, sym, ap, subst, ◌∙◌, arith, length-append}
+use Rattle.std.specs.List.{flat_map, range_with_len}
 use Rattle.std.proofs.lemmas.List.{length-map}
 use Rattle.std.proofs.lemmas.List.Elements.{All-append, All-map}
 use Rattle.std.proofs.lemmas.List.FromFn.{length-range_with_len}
-use Rattle.fb_outside.specs.Files.{Files, SameFiles}
+use Rattle.fb_outside.specs.Files.{Files}
 use Rattle.fb_outside.specs.Puts.{File, PutsAll, PutsFront, PutsInOrder}
-use Rattle.fb_outside.proofs.PutLemmas.{PutsFront-none}
 use Rattle.fb_types.specs.declared.cells.Cell.{Cell}
 use Rattle.fb_types.specs.declared.schemas.Column.{Column}
 use Rattle.part_meta.specs.declared.catalog.Catalog.{Catalog}
 use Rattle.part_meta.specs.declared.part.PartMeta.{PartMeta}
 use Rattle.part_meta.specs.CatalogText.{IsCatalog, catalog_text}
 use Rattle.part_meta.specs.FileNames.{catalog_name}
-use Rattle.part_meta.specs.PartText.{IsPart}
-use Rattle.world.specs.World.{Partition}
-use Rattle.world.specs.Effects.{new_part, new_parts, part_count, piece}
+use Rattle.world.specs.Effects.{new_part, new_parts, part_count}
 use Rattle.world.specs.PartFiles.{part_data, part_files}
 use Rattle.world.proofs.PieceLemmas.{All-new_parts, piece-size}
 use Rattle.dataset.specs.Appended.{append_files, appended, grown_catalog}

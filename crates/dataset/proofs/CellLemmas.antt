@@ -1,5 +1,5 @@
 -- The cells of a column of a part, and what they leave, row by row.
-use Rattle.std.proofs.Common.{zero, suc, ◌≡◌, ◌<◌, ◌≤◌, ◌+◌, ◌*◌, ◌-◌, ◌^◌, ℕ, ℤ, pos, ◌≤ℤ◌, Bool, true, false, List, [], ◌∷◌, ◌++◌, Option, Some, None, IsSome, MatchOption, All, length, map, take, drop, get_or, pow_mono, IsNone, slice_index_or, slice_get, unwrap_or, refl, sym, ap, subst, ◌∙◌, arith, rules}
+use Rattle.std.proofs.Common.{zero, suc, ◌≡◌, ◌<◌, ◌≤◌, ◌+◌, ◌*◌, ◌^◌, ℕ, Bool, true, false, List, [], ◌∷◌, ◌++◌, Option, Some, None, IsSome, MatchOption, All, length, map, take, drop, get_or, pow_mono, IsNone, slice_index_or, slice_get, refl, sym, ap, subst, ◌∙◌, arith, rules}
 use Rattle.std.proofs.lemmas.List.{get_or-map, get_or-take, get_or-drop, take_more, map-append, length-map, length-take, length-drop, get_or_default}
 use Rattle.std.proofs.lemmas.Bool.{false≢true}
 use Rattle.std.proofs.lemmas.Grind.{pow_more}
@@ -16,7 +16,7 @@ use Rattle.fb_types.proofs.CellFacts.{length-RecordFits, CellFits-at}
 use Rattle.fb_types.specs.Table.{Table, AllFit, cell_at}
 use Rattle.fb_types.specs.Types.{ends_of}
 use Rattle.column_file.specs.Values.{ValueFits}
-use Rattle.world.specs.PartFiles.{column_cells, is_present, number_of, texts_of, word_of}
+use Rattle.world.specs.Cells.{column_cells, is_present, number_of}
 use Rattle.dataset.specs.WrittenColumns.{records_from}
 
 -- ---- cut from a table

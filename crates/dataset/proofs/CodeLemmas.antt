@@ -1,6 +1,6 @@
 -- The codes of a category's cells, and its words.
-use Rattle.std.proofs.Common.{◌≡◌, ◌<◌, ◌≤◌, ◌+◌, ◌-◌, ◌^◌, ℕ, ℤ, pos, ◌≤ℤ◌, Bool, true, false, cond, List, [], ◌∷◌, ◌++◌, Some, None, length, map, take, get_or, unwrap_or, refl, sym, ap, ◌∙◌, arith, rules, append-nil, length-append}
-use Rattle.std.specs.List.{filter_map, fold, list_any}
+use Rattle.std.proofs.Common.{◌≡◌, ◌<◌, ◌≤◌, ◌+◌, ◌^◌, ℕ, pos, Bool, true, false, cond, List, [], ◌∷◌, ◌++◌, Some, length, map, unwrap_or, refl, sym, ap, ◌∙◌, arith, rules, append-nil, length-append}
+use Rattle.std.specs.List.{filter_map, list_any}
 use Rattle.std.specs.Str.{bytes_eq}
 use Rattle.std.proofs.lemmas.List.Elements.{filter_map-append}
 use Rattle.std.proofs.lemmas.List.Sums.{fold-append}
@@ -10,7 +10,7 @@ use Rattle.fb_types.specs.declared.types.ColType.TheVariants.{Category}
 use Rattle.column_file.specs.Values.{ValueFits}
 use Rattle.text_column.specs.Words.{code_in, first_seen, with_word}
 use Rattle.text_column.proofs.WordLemmas.{code_kept, no_code}
-use Rattle.world.specs.PartFiles.{code_of, dictionary_of, word_of}
+use Rattle.world.specs.Cells.{code_of, dictionary_of, word_of}
 use Rattle.dataset.specs.WrittenColumns.{IsCodeOf, with_cell}
 
 -- ---- one more cell

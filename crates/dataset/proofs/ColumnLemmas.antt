@@ -1,5 +1,5 @@
 -- The columns of a world's datasets in their files.
-use Rattle.std.proofs.Common.{◌≡◌, ◌+◌, ◌<◌, ◌≤◌, ℕ, zero, suc, Bool, List, [], ◌∷◌, length, map, Option, Some, None, Result, Ok, Err, IsSome, refl, sym, ap, subst, ◌∙◌, arith}
+use Rattle.std.proofs.Common.{◌≡◌, ◌+◌, ◌≤◌, ℕ, zero, suc, List, [], ◌∷◌, length, map, Option, Some, Ok, Err, IsSome, refl, sym, ap, subst, ◌∙◌, arith}
 use Rattle.std.specs.List.{All, slice_get}
 use Rattle.std.proofs.lemmas.List.{length-map}
 use Rattle.std.proofs.lemmas.List.Elements.{All-head, All-tail}
@@ -12,7 +12,6 @@ use Rattle.fb_types.specs.declared.types.ColType.{ColType}
 use Rattle.fb_types.specs.declared.types.ColType.TheVariants.{Byte, UByte, Short, UShort, Int, UInt, Long, ULong, Category, Text}
 use Rattle.fb_types.specs.Types.{width_of}
 use Rattle.wah_words.specs.Bytes.{spelling}
-use Rattle.column_file.specs.declared.fault.ColFault.{ColFault}
 use Rattle.column_file.specs.Opening.{column_in}
 use Rattle.column_file.specs.Values.{values_bytes, width_in}
 use Rattle.column_file.proofs.OpeningLemmas.{column_opens}
@@ -21,16 +20,19 @@ use Rattle.part_meta.specs.declared.names.FileKind.TheVariants.{Words}
 use Rattle.text_column.specs.DictionaryFile.{dictionary_bytes}
 use Rattle.part_meta.specs.FileNames.{file_name, mask_name, part_name, values_name}
 use Rattle.part_meta.specs.PartText.{part_text}
-use Rattle.world.specs.World.{Content, IsContent, IsPartition, Partition, World, content_at}
-use Rattle.world.specs.PartFiles.{code_of, column_cells, column_files, columns_files, dictionary_of, is_present, number_of, part_data, part_files, whole_files}
+use Rattle.world.specs.World.{Content, IsPartition, Partition, World, content_at}
+use Rattle.world.specs.PartFiles.{column_files, columns_files, part_data, part_files}
+use Rattle.world.specs.Cells.{code_of, column_cells, dictionary_of, is_present, number_of}
 use Rattle.world.specs.Stands.{PartRests, Stands}
 use Rattle.dataset.specs.declared.content.Dataset.{Dataset}
 use Rattle.dataset.specs.Damage.{Damage, IsColumnDamaged}
 use Rattle.dataset.specs.Found.{dataset_in}
-use Rattle.dataset.specs.InWorld.{HasNumbers, IsColumnOf, IsDatasetOf, stored_numbers}
+use Rattle.dataset.specs.InWorld.{HasNumbers, IsColumnOf}
+use Rattle.world.specs.Cells.{stored_numbers}
 use Rattle.dataset.specs.Opened.{OpensAs}
 use Rattle.dataset.proofs.FitLemmas.{cells_fit, stored_fit}
-use Rattle.dataset.proofs.ListLemmas.{All-at, All-left, All-right, Mapped, map-at}
+use Rattle.world.proofs.PlaceLemmas.{All-at}
+use Rattle.dataset.proofs.ListLemmas.{All-left, All-right, map-at}
 use Rattle.dataset.proofs.WorldLemmas.{opened}
 
 -- ---- the files of a column among those of its part

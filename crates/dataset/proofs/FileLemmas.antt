@@ -1,15 +1,16 @@
 -- Files that are put one after another: those of the columns, and of the parts.
-use Rattle.std.proofs.Common.{◌≡◌, ◌<◌, ◌≤◌, ◌+◌, ◌*◌, ◌-◌, zero, suc, ℕ, List, [], ◌∷◌, ◌++◌, Option, Some, None, Result, Ok, Err, IsErrOf, OnOk, length, map, take, drop, get_or, refl, sym, ap, subst, ◌∙◌, arith, append_assoc, append-nil, length-take, zero-add, min, IsSome, slice_get}
+use Rattle.std.proofs.Common.{◌≡◌, ◌<◌, ◌≤◌, ◌+◌, ◌*◌, zero, suc, ℕ, List, [], ◌∷◌, ◌++◌, Option, Some, Result, Ok, Err, IsErrOf, OnOk, length, take, drop, get_or, refl, sym, ap, subst, ◌∙◌, arith, append_assoc, append-nil, length-take, zero-add, min, IsSome, slice_get}
+use Rattle.std.specs.FinMap.{empty}
 use Rattle.std.specs.List.{flat_map}
 use Rattle.std.proofs.lemmas.List.FromFn.{length-map-range_with_len, get_or-map-range_with_len}
 use Rattle.world.specs.Effects.{new_part, new_parts, part_count}
-use Rattle.std.proofs.lemmas.List.{take_min, take-append-drop, take_more, drop_more}
+use Rattle.std.proofs.lemmas.List.{take_min, take-append-drop, take_more}
 use Rattle.std.proofs.lemmas.List.Concat.{flat_map-append}
 use Rattle.fb_outside.specs.Files.{Files, SameFiles, Puts, PutLeaves}
-use Rattle.fb_outside.specs.Puts.{File, PutsAll, PutsFront, PutsInOrder}
+use Rattle.fb_outside.specs.Puts.{File, PutsFront, PutsInOrder}
 use Rattle.fb_outside.specs.declared.outside.Trouble.{Trouble}
 use Rattle.fb_outside.specs.declared.outside.Trouble.TheVariants as trouble
-use Rattle.fb_outside.proofs.PutLemmas.{PutsAll-one, PutsFront-one, PutsFront-none, PutsFront-more, PutsFront-append, PutsInOrder-then}
+use Rattle.fb_outside.proofs.PutLemmas.{PutsAll-one, PutsFront-one, PutsFront-none, PutsFront-more}
 use Rattle.fb_types.specs.declared.schemas.Column.{Column}
 use Rattle.column_file.specs.declared.fault.ColFault.{ColFault}
 use Rattle.column_file.specs.declared.fault.ColFault.TheVariants as col
@@ -20,7 +21,8 @@ use Rattle.fb_types.specs.declared.cells.Cell.{Cell}
 use Rattle.fb_types.specs.declared.types.ColType.{ColType}
 use Rattle.fb_types.specs.declared.types.ColType.TheVariants.{Byte, UByte, Short, UShort, Int, UInt, Long, ULong, Category, Text}
 use Rattle.fb_types.specs.Types.{ends_of}
-use Rattle.world.specs.PartFiles.{category_files, column_cells, column_files, columns_files, files_by_type, text_files, whole_files}
+use Rattle.world.specs.PartFiles.{category_files, column_files, columns_files, files_by_type, text_files, whole_files}
+use Rattle.world.specs.Cells.{column_cells}
 use Rattle.fb_types.specs.Table.{Table}
 use Rattle.part_meta.specs.declared.part.PartMeta.{PartMeta}
 use Rattle.part_meta.specs.FileNames.{part_name}
@@ -181,7 +183,7 @@ part_from_is table next per_part place meta first is at =
     let records : records_from table first meta.rows ≡ take per_part rest =
     ap (λ k. take meta.rows (drop k table.records)) at ∙ ap (λ k. take k rest) rows ∙ take_min per_part rest in
     let number : meta.number ≡ next + place = ap (λ (m : PartMeta). m.number) is in
-    λ i. record { number = number i; records = records i }
+    λ i. record { number = number i; records = records i; specs = empty }
 
 pub parts_more : (f : Partition → List File) (next per_part place : ℕ) (records : List (List Cell)) → place < part_count per_part (length records)
     → flat_map f (take (place + 1) (new_parts next per_part records)) ≡ flat_map f (take place (new_parts next per_part records)) ++ f (new_part next per_part records place)

@@ -1,10 +1,10 @@
 -- The numbers that a column keeps are numbers of its type.
-use Rattle.std.proofs.Common.{◌≡◌, ◌+◌, ◌-◌, ◌<◌, ◌≤◌, ◌^◌, ℕ, zero, suc, ℤ, pos, ◌≤ℤ◌, List, [], ◌∷◌, length, map, Option, Some, None, IsSome, MatchOption, option_map, unwrap_or, refl, sym, ap, subst, ◌∙◌, arith}
+use Rattle.std.proofs.Common.{◌≡◌, ◌+◌, ◌<◌, ◌≤◌, ℕ, zero, suc, ℤ, pos, ◌≤ℤ◌, List, [], ◌∷◌, length, map, Option, Some, None, MatchOption, option_map, unwrap_or, refl, subst, arith}
 use Rattle.std.specs.List.{All, AllByRecursion, filter_map, position, slice_get}
 use Rattle.std.specs.Prelude.{slice_index_or}
 use Rattle.std.specs.Str.{bytes_eq}
 use Rattle.std.proofs.lemmas.Int.{ints}
-use Rattle.std.proofs.lemmas.List.Elements.{All-cons, All-head, All-map, All-nil, All-tail, All-weaker}
+use Rattle.std.proofs.lemmas.List.Elements.{All-head, All-map, All-nil, All-tail, All-weaker}
 use Rattle.std.proofs.lemmas.List.Quantifiers.{position-Some}
 use Rattle.fb_types.specs.declared.cells.Cell.{Cell}
 use Rattle.fb_types.specs.declared.cells.Cell.TheVariants.{Null, Whole, Word}
@@ -12,12 +12,11 @@ use Rattle.fb_types.specs.declared.schemas.Column.{Column}
 use Rattle.fb_types.specs.declared.types.ColType.{ColType}
 use Rattle.fb_types.specs.declared.types.ColType.TheVariants.{Byte, UByte, Short, UShort, Int, UInt, Long, ULong, Category, Text}
 use Rattle.fb_types.specs.Cells.{CellFits, RecordFits}
-use Rattle.fb_types.specs.Types.{ends_of, unsigned_ends, width_of}
-use Rattle.column_file.specs.Values.{ValueFits, stored_ends}
-use Rattle.text_column.specs.Words.{IsDictionary, IsWord, code_in, first_seen}
+use Rattle.fb_types.specs.Types.{ends_of, unsigned_ends}
+use Rattle.column_file.specs.Values.{ValueFits}
+use Rattle.text_column.specs.Words.{IsDictionary, IsWord, code_in}
 use Rattle.text_column.proofs.DictionaryLemmas.{seen_dictionary}
-use Rattle.world.specs.PartFiles.{code_of, column_cells, dictionary_of, number_of, word_of}
-use Rattle.dataset.specs.InWorld.{stored_numbers}
+use Rattle.world.specs.Cells.{code_of, column_cells, dictionary_of, number_of, stored_numbers, word_of}
 
 -- ---- the cells of a column
 

@@ -1,22 +1,17 @@
 -- A dataset with new parts, and without them again.
 use Rattle.std.proofs.lemmas.Bool.{ltb-false, ltb-true}
-use Rattle.std.proofs.Common.{◌≡◌, ◌⊎◌, inl, inr, nat_lt, true, false, ◌<◌, ◌≤◌, ◌+◌, ◌*◌, ◌-◌, zero, suc, ℕ, List, [], ◌∷◌, ◌++◌, Option, Some, None, MatchOption, min, length, map, take, drop, get_or, refl, sym, ap, subst, ◌∙◌, arith, append_assoc, append-nil, length-append, length-take, length-drop}
+use Rattle.std.proofs.Common.{◌≡◌, ◌⊎◌, inl, inr, nat_lt, true, false, ◌<◌, ◌≤◌, ◌+◌, ◌-◌, zero, suc, ℕ, List, [], ◌∷◌, ◌++◌, Option, Some, None, MatchOption, length, map, take, get_or, refl, sym, ap, ◌∙◌, arith, length-append, length-take}
 use Rattle.std.specs.List.{All, AllPairs, range_with_len}
 use Rattle.std.proofs.Math.Seq.{take-append_seam}
-use Rattle.std.proofs.lemmas.List.{length-map, take_all, take-append-le, map-append, get_or_append_left}
+use Rattle.std.proofs.lemmas.List.{length-map, map-append, get_or_append_left}
 use Rattle.std.proofs.lemmas.List.FromFn.{length-map-range_with_len, length-range_with_len, get_or-range_with_len, map-range_with_len_more}
-use Rattle.fb_outside.specs.Names.{IsPath}
 use Rattle.fb_types.specs.declared.cells.Cell.{Cell}
 use Rattle.fb_types.specs.declared.schemas.Column.{Column}
 use Rattle.part_meta.specs.declared.part.PartMeta.{PartMeta}
-use Rattle.part_meta.specs.CatalogText.{IsCatalog}
-use Rattle.part_meta.specs.PartText.{IsPart}
-use Rattle.world.specs.World.{Partition}
-use Rattle.world.specs.Effects.{new_part, new_parts, part_count, piece}
+use Rattle.world.specs.Effects.{new_part, part_count}
 use Rattle.world.specs.PartFiles.{part_data}
 use Rattle.dataset.specs.Appended.{appended, grown_catalog}
-use Rattle.dataset.specs.Growing.{with_parts, without_parts}
-use Rattle.dataset.specs.Opened.{IsDataset, IsPartOf, catalog_in}
+use Rattle.dataset.specs.Opened.{catalog_in}
 use Rattle.dataset.specs.declared.content.Dataset.{Dataset}
 
 -- ---- a list without its last items

@@ -1,6 +1,7 @@
 -- The files of a load that isn't refused make the files stand for the world after it.
 use Rattle.std.proofs.Common.{◌≡◌, ◌≢◌, ◌⊎◌, ◌↔◌, ◌+◌, ◌<◌, ◌≤◌, nat_lt, ℕ, suc, Bool, true, false, if◌then◌else◌, List, [], ◌∷◌, ◌++◌, All, length, map, take, Option, Some, None, option_map, refl, sym, ap, ◌∙◌, subst, inl, inr, arith, bytes_eq, length-append, get_or}
-use Rattle.std.specs.FinMap.{insert}
+use Rattle.std.specs.FinMap.{get-empty, insert}
+use Rattle.std.specs.Ordering.{nat_cmp}
 use Rattle.std.specs.List.{AllPairs, flat_map}
 use Rattle.std.proofs.lemmas.Bool.{and_from, and_parts}
 use Rattle.std.proofs.lemmas.Bool.Decides.{nat_tests}
@@ -18,18 +19,22 @@ use Rattle.fb_types.specs.Schemas.{IsSchema}
 use Rattle.fb_types.specs.SchemaText.{type_named}
 use Rattle.fb_types.specs.Types.{type_name}
 use Rattle.fb_types.proofs.ItemFacts.{type_named-type_name}
+use Rattle.index_spec.specs.declared.spec.Spec.{Spec}
 use Rattle.part_meta.specs.declared.catalog.Catalog.{Catalog}
 use Rattle.part_meta.specs.declared.part.PartMeta.{PartMeta}
 use Rattle.part_meta.specs.CatalogText.{catalog_text}
 use Rattle.part_meta.specs.FileNames.{IsFileOf, catalog_name}
 use Rattle.world.specs.World.{Content, IsContent, Partition, World, catalog_data, content_at}
-use Rattle.world.specs.PartFiles.{part_data, part_files}
+use Rattle.world.specs.Cells.{column_cells}
+use Rattle.world.specs.IndexFiles.{column_index}
+use Rattle.world.specs.PartFiles.{index_in, part_data, part_files}
 use Rattle.world.specs.Stands.{IsUnindexed, PartRests, Stands, StandsFor}
-use Rattle.world.specs.Effects.{Loads, after_one, extended, found_or_empty, new_part, new_parts, part_count}
+use Rattle.world.specs.Effects.{Loads, after_one, extended, found_or_empty, new_part, new_parts, part_count, piece}
 use Rattle.world.proofs.PieceLemmas.{All-new_parts}
 use Rattle.world.proofs.ContentLemmas.{IsContent-extended, numbers-extended}
 use Rattle.world.proofs.FileLemmas.{parts-apart, parts-written}
 use Rattle.world.proofs.KeptLemmas.{IsNewName, IsNewNumber, IsReady, KeepsParts, Stands-new, Stands-put, keeps-others, parts-kept, unindexed-kept}
+use Rattle.world.proofs.PlaceLemmas.{All-at}
 use Rattle.dataset.specs.Appended.{SchemaDiffers, append_files, first_difference, grown_catalog, is_same_column, refusal, refusal_by, too_many}
 use Rattle.dataset.specs.Found.{dataset_in}
 use Rattle.dataset.specs.Opened.{catalog_in}
@@ -249,6 +254,14 @@ news-there files path schema next per_part records valid few =
     (new_parts next per_part records) (new_numbers next per_part records few))
     (numbers-differ next per_part records)))
 
+-- and they have no index
+news-unindexed : (next per_part : ℕ) (records : List (List Cell))
+    → All (λ part. (col : ℕ) (column : Column) → index_in part col column ≡ None) (new_parts next per_part records)
+news-unindexed next per_part records =
+    All-new_parts (λ part. (col : ℕ) (column : Column) → index_in part col column ≡ None) next per_part records
+    (λ place there col column.
+    ap (option_map (λ (spec : Spec). column_index spec column.ty (column_cells col (piece per_part records place)))) (get-empty nat_cmp col))
+
 -- ---- the dataset before
 
 numbers-of_parts : (schema : List Column) (parts : List Partition)
@@ -355,15 +368,20 @@ module _ (files : Files) (world : World) (path : List ℕ) (schema : List Column
       let number = new_numbers found.next per_part records numbered k d within in
       record {
         listed = news-there files path found.schema found.next per_part records was.valid.catalog.schema numbered k d within;
-        unindexed = unindexed-kept files filled path found.next (get_or (new_parts found.next per_part records) k d).number found.schema kept
-            was.valid.catalog.schema.named number.1 (was.unindexed (get_or (new_parts found.next per_part records) k d).number number.0 number.1);
+        indexes = λ col column at.
+            let part = get_or (new_parts found.next per_part records) k d in
+            let none : IsUnindexed filled path part.number column.name
+            = All-at (λ (c : Column). IsUnindexed filled path part.number c.name) found.schema col column at
+            (unindexed-kept files filled path found.next part.number found.schema kept was.valid.catalog.schema.named number.1
+            (was.unindexed part.number number.0 number.1)) in
+            none ∙ sym (news-unindexed found.next per_part records k d within col column);
       }
 
   ready : IsReady filled world path (extended found per_part records)
   ready =
       record {
         parts = All-append (PartRests filled path found.schema) found.parts (new_parts found.next per_part records)
-            (parts-kept files filled path found.next found.schema found.parts was.valid.catalog.schema was.valid.catalog.next was.valid.catalog.below kept was.parts)
+            (parts-kept files filled path found.next found.schema found.parts was.valid.catalog.schema was.valid.catalog.below kept was.parts)
             new_rest;
         unindexed = λ number later low.
             unindexed-kept files filled path found.next number found.schema kept was.valid.catalog.schema.named low

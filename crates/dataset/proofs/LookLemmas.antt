@@ -1,12 +1,12 @@
 -- The looks of an opening are at texts that are listed.
-use Rattle.std.proofs.Common.{◌≡◌, ◌+◌, ◌<◌, ℕ, List, get_or, length, Option, Some, None, IfSome, inl, inr, sym, ap, subst, ◌∙◌}
+use Rattle.std.proofs.Common.{◌≡◌, ◌<◌, ℕ, List, get_or, length, Option, Some, None, IfSome, inl, inr, sym, ap, subst, ◌∙◌}
 use Rattle.std.proofs.lemmas.Option.{slice_get-get_or}
 use Rattle.fb_outside.specs.Files.{Files}
 use Rattle.fb_outside.specs.Reads.{AddsOnly, IsWholeLook, Look, whole_look}
 use Rattle.fb_outside.proofs.ReadLemmas.{AddsOnly-same, AddsOnly-trans, AddsOnly-weaken}
 use Rattle.part_meta.specs.declared.catalog.Catalog.{Catalog}
 use Rattle.part_meta.specs.FileNames.{catalog_name, part_name}
-use Rattle.dataset.specs.Looks.{IsListedLook, IsPartLook}
+use Rattle.dataset.specs.Looks.{IsListedLook}
 use Rattle.dataset.specs.Opened.{HasCatalog}
 
 -- where nothing was read

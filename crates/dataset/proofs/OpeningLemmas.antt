@@ -7,9 +7,8 @@ use Rattle.part_meta.specs.declared.catalog.Catalog.{Catalog}
 use Rattle.part_meta.specs.CatalogText.{IsCatalog, catalog_text}
 use Rattle.part_meta.specs.FileNames.{catalog_name, part_name}
 use Rattle.part_meta.specs.declared.part.PartMeta.{PartMeta}
-use Rattle.part_meta.specs.PartText.{part_text}
 use Rattle.dataset.specs.declared.fault.DamageKind.TheVariants.{Missing, Text}
-use Rattle.dataset.specs.Damage.{IsFirstDamaged, IsNext, IsNoText, IsPartText, Unopened, damage, damaged, part_with}
+use Rattle.dataset.specs.Damage.{IsNext, IsNoText, IsPartText, Unopened, damage, damaged}
 use Rattle.dataset.specs.Damage.IsFirstDamaged.{NoCatalogText, NoPart, NoPartText}
 use Rattle.dataset.specs.Opened.{HasCatalog, HasPart, IsTextLook}
 

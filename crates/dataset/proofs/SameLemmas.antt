@@ -6,9 +6,7 @@ use Rattle.fb_outside.specs.Files.{Files, file_at}
 use Rattle.fb_types.specs.declared.schemas.Column.{Column}
 use Rattle.part_meta.specs.declared.catalog.Catalog.{Catalog}
 use Rattle.part_meta.specs.declared.part.PartMeta.{PartMeta}
-use Rattle.part_meta.specs.CatalogText.{catalog_text}
 use Rattle.part_meta.specs.FileNames.{part_name}
-use Rattle.part_meta.specs.PartText.{part_text}
 use Rattle.part_meta.proofs.CatalogLemmas.{catalog_text-injective}
 use Rattle.part_meta.proofs.PartLemmas.{part_text-injective}
 use Rattle.dataset.specs.declared.content.Dataset.{Dataset}

@@ -1,7 +1,7 @@
 -- The datasets of a world, opened.
-use Rattle.std.proofs.Common.{◌≡◌, ◌≢◌, ◌<◌, ◌≤◌, ℕ, suc, List, [], ◌∷◌, ◌++◌, length, map, Option, Some, None, refl, sym, ap, subst, ◌∙◌, arith}
+use Rattle.std.proofs.Common.{◌≡◌, ◌≢◌, ◌<◌, ◌≤◌, ℕ, List, [], ◌∷◌, map, Option, Some, None, refl, sym, ap, subst, ◌∙◌, arith}
 use Rattle.std.specs.List.{All, slice_get}
-use Rattle.std.proofs.lemmas.List.Elements.{All-cons, All-head, All-map, All-nil, All-tail}
+use Rattle.std.proofs.lemmas.List.Elements.{All-cons, All-head, All-nil, All-tail}
 use Rattle.fb_outside.specs.Files.{Files, file_at}
 use Rattle.fb_outside.specs.Names.{IsPath}
 use Rattle.fb_outside.specs.Puts.{File, IsThere}
@@ -9,20 +9,21 @@ use Rattle.fb_types.specs.declared.schemas.Column.{Column}
 use Rattle.fb_types.specs.Schemas.{IsSchema}
 use Rattle.part_meta.specs.declared.catalog.Catalog.{Catalog}
 use Rattle.part_meta.specs.declared.part.PartMeta.{PartMeta}
-use Rattle.part_meta.specs.CatalogText.{IsCatalog, catalog_text}
+use Rattle.part_meta.specs.CatalogText.{catalog_text}
 use Rattle.part_meta.specs.FileNames.{catalog_name, part_name}
 use Rattle.part_meta.specs.PartText.{IsPart, part_text}
 use Rattle.world.specs.World.{Content, IsContent, IsPartition, Partition, World, catalog_data, content_at}
 use Rattle.world.specs.PartFiles.{columns_files, part_data, part_files}
-use Rattle.world.specs.Stands.{IsFree, PartRests, Rests, Stands}
+use Rattle.world.specs.Stands.{PartRests, Rests, Stands}
 use Rattle.dataset.specs.declared.content.Dataset.{Dataset}
-use Rattle.dataset.specs.Damage.{Damage, IsFirstDamaged, IsGood, IsNext, part_with}
+use Rattle.dataset.specs.Damage.{Damage, IsFirstDamaged, IsGood, part_with}
 use Rattle.dataset.specs.Damage.IsFirstDamaged.{NoCatalogText, NoPart, NoPartText}
 use Rattle.dataset.specs.Found.{Found, IsFound, dataset_in, found_by, found_in}
 use Rattle.dataset.specs.Found.Found.{Absent, Broken, There}
 use Rattle.dataset.specs.InWorld.{IsDatasetOf}
 use Rattle.dataset.specs.Opened.{HasCatalog, HasPart, OpensAs, catalog_in}
-use Rattle.dataset.proofs.ListLemmas.{All-at, All-right, Mapped, map-at}
+use Rattle.world.proofs.PlaceLemmas.{All-at}
+use Rattle.dataset.proofs.ListLemmas.{All-right, map-at}
 use Rattle.dataset.proofs.SameLemmas.{same_catalog, same_dataset}
 
 -- ---- the texts of a dataset that rests

@@ -1,5 +1,5 @@
 -- A dataset on the way to one with the new parts, and back.
-use Rattle.std.specs.Prelude.{◌-◌, ℕ, List, [], ◌∷◌, ◌++◌, length, take}
+use Rattle.std.specs.Prelude.{◌-◌, ℕ, List, ◌++◌, length, take}
 use Rattle.part_meta.specs.declared.part.PartMeta.{PartMeta}
 use Rattle.dataset.specs.declared.content.Dataset.{Dataset}
 

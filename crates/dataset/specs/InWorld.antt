@@ -1,18 +1,15 @@
 -- The datasets of a world as they are opened, and the files of their columns.
-use Rattle.std.specs.Prelude.{◌≡◌, ℕ, ℤ, List, [], length, map, IsSome, Ok, Some, slice_get}
+use Rattle.std.specs.Prelude.{◌≡◌, ℕ, List, length, map, Ok, Some, slice_get}
 use Rattle.std.specs.List.{All}
 use Rattle.fb_outside.specs.Files.{Files, file_at}
 use Rattle.fb_types.specs.declared.cells.Cell.{Cell}
 use Rattle.fb_types.specs.declared.schemas.Column.{Column}
-use Rattle.fb_types.specs.declared.types.ColType.{ColType}
-use Rattle.fb_types.specs.declared.types.ColType.TheVariants.{Byte, UByte, Short, UShort, Int, UInt, Long, ULong, Category, Text}
-use Rattle.fb_types.specs.Types.{width_of}
 use Rattle.wah_words.specs.Bytes.{spelling}
 use Rattle.column_file.specs.Opening.{column_in}
 use Rattle.column_file.specs.Values.{ValueFits, values_bytes, width_in}
 use Rattle.part_meta.specs.FileNames.{mask_name, values_name}
 use Rattle.world.specs.World.{Content, Partition, World, content_at}
-use Rattle.world.specs.PartFiles.{code_of, dictionary_of, is_present, number_of}
+use Rattle.world.specs.Cells.{is_present, stored_numbers}
 use Rattle.dataset.specs.declared.content.Dataset.{Dataset}
 use Rattle.dataset.specs.Found.{dataset_in}
 
@@ -29,19 +26,6 @@ pub record IsColumnOf (world : World) (dir : List ℕ) (part : Partition) (col :
   pub place : ℕ
   pub listed : slice_get content.parts place ≡ Some part
   pub in_schema : slice_get content.schema col ≡ Some column
-
--- the numbers that a column keeps for its cells: a category's are the codes of its words, and a text column has none
-abbrev pub stored_numbers : ColType → List Cell → List ℤ
-stored_numbers Byte cells = map number_of cells
-stored_numbers UByte cells = map number_of cells
-stored_numbers Short cells = map number_of cells
-stored_numbers UShort cells = map number_of cells
-stored_numbers Int cells = map number_of cells
-stored_numbers UInt cells = map number_of cells
-stored_numbers Long cells = map number_of cells
-stored_numbers ULong cells = map number_of cells
-stored_numbers Category cells = map (code_of (dictionary_of cells)) cells
-stored_numbers Text cells = []
 
 -- The files of a column of numbers in a part: its values, each of which its type has, and which rows have one; and these open.
 pub record HasNumbers (files : Files) (dir : List ℕ) (number : ℕ) (column : Column) (cells : List Cell) : Type 0 where

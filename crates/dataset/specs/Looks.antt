@@ -1,10 +1,9 @@
 -- The reads of an opening.
-use Rattle.std.specs.Prelude.{◌≡◌, ◌⊎◌, ℕ, List, ◌∷◌, Option, Some, None, map, slice_get}
+use Rattle.std.specs.Prelude.{◌≡◌, ◌⊎◌, ℕ, List, Some, slice_get}
 use Rattle.fb_outside.specs.Files.{Files}
-use Rattle.fb_outside.specs.Reads.{AddsReads, Look, whole_look}
+use Rattle.fb_outside.specs.Reads.{Look, whole_look}
 use Rattle.part_meta.specs.declared.catalog.Catalog.{Catalog}
 use Rattle.part_meta.specs.FileNames.{catalog_name, part_name}
-use Rattle.dataset.specs.declared.content.Dataset.{Dataset}
 use Rattle.dataset.specs.Opened.{HasCatalog}
 
 -- a look at the whole text of a part that the catalog lists

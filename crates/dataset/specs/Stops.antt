@@ -3,7 +3,7 @@ use Rattle.std.specs.Prelude.{◌≡◌}
 use Rattle.fb_outside.specs.declared.outside.Trouble.{Trouble}
 use Rattle.fb_outside.specs.declared.outside.Trouble.TheVariants as trouble
 use Rattle.column_file.specs.declared.fault.ColFault.{ColFault}
-use Rattle.column_file.specs.declared.fault.ColFault.TheVariants.{Missing, WrongLength, MaskMissing, Mask, MaskTrailing, MaskLength, Store, OutOfMemory}
+use Rattle.column_file.specs.declared.fault.ColFault.TheVariants.{Store, OutOfMemory}
 use Rattle.dataset.specs.declared.fault.AppendFault.{AppendFault}
 use Rattle.dataset.specs.declared.fault.AppendFault.TheVariants as append
 

@@ -1,5 +1,6 @@
 -- One column of a part that is written: where its files go, and its cells.
 use Rattle.std.specs.Prelude.{◌≡◌, ◌+◌, ◌≤◌, ◌<◌, ◌^◌, ℕ, List, length, map, take, drop, Some, slice_get, slice_index_or}
+use Rattle.std.specs.FinMap.{empty}
 use Rattle.std.specs.List.{All}
 use Rattle.fb_outside.specs.Names.{IsPath}
 use Rattle.fb_outside.specs.Puts.{File}
@@ -12,7 +13,6 @@ use Rattle.part_meta.specs.declared.names.FileKind.{FileKind}
 use Rattle.part_meta.specs.FileNames.{file_name}
 use Rattle.text_column.specs.Words.{code_in, with_word}
 use Rattle.world.specs.World.{Partition}
-use Rattle.world.specs.PartFiles.{column_cells}
 use Rattle.part_meta.specs.PartText.{most_rows}
 
 -- the dataset's path, the part's number, the column, and its cells from the top
@@ -57,9 +57,9 @@ with_cell words Null = words
 with_cell words (Whole number) = words
 with_cell words (Word word) = with_word words word
 
--- the part of this number that has them
+-- the part of this number that has them, without an index
 abbrev pub part_from : Table → (number first rows : ℕ) → Partition
-part_from table number first rows = record { number = number; records = records_from table first rows }
+part_from table number first rows = record { number = number; records = records_from table first rows; specs = empty }
 
 -- the cell's number under these words: its word's code, or 0
 abbrev pub IsCodeOf : List (List ℕ) → Cell → ℕ → Type 0

@@ -9,7 +9,8 @@ ghost use Rattle.column_file.specs.Opening.{StopsWriting};
 ghost use Rattle.column_file.specs.Values.{ValueFits, values_bytes};
 ghost use Rattle.part_meta.specs.declared.names.FileKind.TheVariants as file;
 ghost use Rattle.wah_words.specs.Bytes.{spelling};
-ghost use Rattle.world.specs.PartFiles.{category_files, column_files, is_present, text_files, whole_files};
+ghost use Rattle.world.specs.PartFiles.{category_files, column_files, text_files, whole_files};
+ghost use Rattle.world.specs.Cells.{is_present};
 ghost use Rattle.dataset.specs.WrittenColumns.{file_in, files_in};
 ghost use Rattle.dataset.specs.Stops.{IsSameTrouble};
 

@@ -8,7 +8,7 @@ ghost use Rattle.column_file.specs.Values.{ValueFits};
 ghost use Rattle.text_column.specs.TextFiles.{AreFilesOf};
 ghost use Rattle.text_column.specs.Words.{IsWord, code_in, with_word, most_words};
 ghost use Rattle.wah_words.specs.Places.{places};
-ghost use Rattle.world.specs.PartFiles.{code_of, dictionary_of, is_present, number_of, texts_of, word_of};
+ghost use Rattle.world.specs.Cells.{code_of, dictionary_of, is_present, number_of, texts_of, word_of};
 ghost use Rattle.dataset.specs.WrittenColumns.{IsCodeOf, cell_of, with_cell};
 ghost use Rattle.fb_types.specs.declared.types.ColType.TheVariants.{Category};
 ghost use Rattle.part_meta.specs.PartText.{most_rows};

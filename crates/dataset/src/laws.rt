@@ -6,7 +6,7 @@ ghost use Rattle.fb_outside.specs.Names.{IsPath};
 ghost use Rattle.fb_types.specs.declared.schemas.Column.{Column};
 ghost use Rattle.fb_types.specs.Types.{width_of};
 ghost use Rattle.part_meta.specs.FileNames.{catalog_name};
-ghost use Rattle.world.specs.PartFiles.{column_cells};
+ghost use Rattle.world.specs.Cells.{column_cells};
 ghost use Rattle.world.specs.Stands.{Stands};
 ghost use Rattle.world.specs.World.{Content, Partition, World, content_at};
 ghost use Rattle.dataset.specs.Damage.{Damage, IsColumnDamaged, IsFirstDamaged};

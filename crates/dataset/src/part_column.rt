@@ -6,7 +6,7 @@ ghost use Rattle.fb_outside.specs.Names.{IsPath};
 ghost use Rattle.fb_types.specs.Cells.{CellFits};
 ghost use Rattle.fb_types.specs.Types.{ends_of};
 ghost use Rattle.fb_types.specs.declared.cells.Cell.TheVariants as cell;
-ghost use Rattle.world.specs.PartFiles.{column_cells, is_present};
+ghost use Rattle.world.specs.Cells.{column_cells, is_present};
 ghost use Rattle.dataset.specs.WrittenColumns.{cell_of, records_from};
 ghost use Rattle.part_meta.specs.PartText.{most_rows};
 
@@ -27,7 +27,7 @@ pub(crate) struct PartColumn<'a> {
 }
 
 impl<'a> Model for PartColumn<'a> {
-    ghost use Rattle.world.specs.PartFiles.{column_cells};
+    ghost use Rattle.world.specs.Cells.{column_cells};
     ghost use Rattle.dataset.specs.WrittenColumns.{ColumnOfPart, IsColumnOfPart, IsCutFrom, records_from};
 
     ghost Value = { ColumnOfPart };

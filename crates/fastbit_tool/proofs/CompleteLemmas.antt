@@ -6,7 +6,7 @@ use Rattle.fb_outside.specs.Streams.{ForSomeInput, Grows}
 use Rattle.world.specs.World.{World}
 use Rattle.world.specs.Stands.{StandsFor}
 use Rattle.statuses.specs.declared.Status.{Status}
-use Rattle.statuses.specs.declared.Status.TheVariants.{Done, Usage, BadSchema, BadInput, SchemaDiffers, BadQuery, NoDataset, Damaged, Limit, ReadFault, StoreFault, SinkFault, OutOfMemory}
+use Rattle.statuses.specs.declared.Status.TheVariants.{Done, Usage, BadSchema, BadInput, SchemaDiffers, BadQuery, BadSpec, NoDataset, Damaged, Limit, ReadFault, StoreFault, SinkFault, OutOfMemory}
 use Rattle.statuses.specs.Outcome.{Outcome}
 use Rattle.commands.specs.Reply.{Replies, is_fault}
 use Rattle.commands.proofs.PrintLemmas.{some_input, some_told}
@@ -29,6 +29,7 @@ only_memory (BadSchema column kind) r s k e = absurd (cc)
 only_memory (BadInput number field kind) r s k e = absurd (cc)
 only_memory (SchemaDiffers column) r s k e = absurd (cc)
 only_memory (BadQuery kind) r s k e = absurd (cc)
+only_memory (BadSpec kind) r s k e = absurd (cc)
 only_memory (NoDataset file) r s k e = absurd (cc)
 only_memory (Damaged file kind want have) r s k e = absurd (cc)
 only_memory (Limit what number limit) r s k e = absurd (cc)

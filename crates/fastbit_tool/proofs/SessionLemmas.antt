@@ -11,7 +11,7 @@ use Rattle.world.specs.Effects.{Effect}
 use Rattle.statuses.specs.declared.LimitKind.TheVariants as limit
 use Rattle.statuses.specs.Lines.{line_of}
 use Rattle.statuses.specs.declared.Status.{Status}
-use Rattle.statuses.specs.declared.Status.TheVariants.{Done, Usage, BadSchema, BadInput, SchemaDiffers, BadQuery, NoDataset, Damaged, Limit, ReadFault, StoreFault, SinkFault, OutOfMemory}
+use Rattle.statuses.specs.declared.Status.TheVariants.{Done, Usage, BadSchema, BadInput, SchemaDiffers, BadQuery, BadSpec, NoDataset, Damaged, Limit, ReadFault, StoreFault, SinkFault, OutOfMemory}
 use Rattle.statuses.specs.Outcome.{Outcome, refused}
 use Rattle.commands.specs.Command.{command_outcome}
 use Rattle.commands.specs.Causes.{HasCauseIn, Printed, Says, SaysBy, is_silent}
@@ -36,6 +36,7 @@ silent_fault (BadSchema column kind) e = absurd (cc)
 silent_fault (BadInput number field kind) e = absurd (cc)
 silent_fault (SchemaDiffers column) e = absurd (cc)
 silent_fault (BadQuery kind) e = absurd (cc)
+silent_fault (BadSpec kind) e = absurd (cc)
 silent_fault (NoDataset file) e = absurd (cc)
 silent_fault (Damaged file kind want have) e = absurd (cc)
 silent_fault (Limit what number limit) e = absurd (cc)

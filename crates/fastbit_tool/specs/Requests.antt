@@ -10,7 +10,7 @@ use Rattle.statuses.specs.declared.Status.TheVariants.{Done, ReadFault, OutOfMem
 use Rattle.statuses.specs.Outcome.{Outcome, refused}
 use Rattle.commands.specs.Command.{Command, command_of, command_outcome}
 use Rattle.commands.specs.Causes.{ComesTo, Says}
-use Rattle.commands.specs.Effects.{IsOfCommand}
+use Rattle.commands.specs.Effects.{IsOfCommand, KeepsRefused}
 use Rattle.commands.specs.Order.{Yields}
 use Rattle.commands.specs.Order as order
 use Rattle.fastbit_tool.specs.Session.{LinesRun, is_long, line_command, lines_of, session_outcome, too_long}
@@ -55,6 +55,11 @@ IsOfLines (line ∷ lines) name = IsOfLineBy (line_command line) name ⊎ IsOfLi
 abbrev pub IsOfAsked : Asked → List ℕ → List ℕ → Type 0
 IsOfAsked OfSession input name = IsOfLines (lines_of input) name
 IsOfAsked (Of command) input name = IsOfCommand command name
+
+-- what a refusal leaves of the files
+abbrev pub AskedKeeps : Asked → Option Files → Option Files → Type 0
+AskedKeeps OfSession old new = SameFiles old new
+AskedKeeps (Of command) old new = KeepsRefused command old new
 
 -- ---- what it comes to over any files, and what is printed
 

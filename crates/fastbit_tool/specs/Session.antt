@@ -15,7 +15,7 @@ use Rattle.statuses.specs.declared.Status.TheVariants.{Done, Limit, ReadFault, O
 use Rattle.statuses.specs.Outcome.{Outcome, refused}
 use Rattle.commands.specs.Command.{Command, Unknown, command_of, command_outcome}
 use Rattle.commands.specs.Causes.{ComesTo, HasCauseIn, Says}
-use Rattle.commands.specs.Effects.{IsOfCommand, LeavesAfter}
+use Rattle.commands.specs.Effects.{IsOfCommand, KeepsRefused, LeavesAfter}
 use Rattle.commands.specs.Order.{Yields}
 use Rattle.commands.specs.Reply.{Replies, is_fault}
 
@@ -97,7 +97,7 @@ pub record CommandRuns (command : Command) (left : Option (List ℕ)) (old new :
   pub causes : HasCauseIn (ComesTo command left old) status
   pub prints : Says (ComesTo command left old) status before now
   pub kept : ChangesAmong (IsOfCommand command) old new
-  pub refused : is_fault status ≡ false → status ≢ Done → SameFiles old new
+  pub refused : is_fault status ≡ false → status ≢ Done → KeepsRefused command old new
   pub order : Yields command left status
   pub unread : status ≢ ReadFault
 

@@ -5,7 +5,7 @@ mod sessions;
 
 ghost use Rattle.std.specs.Prelude.{◌≡◌, ◌≢◌, true, false};
 ghost use Rattle.fb_outside.specs.Causes.{HasCause, Rose};
-ghost use Rattle.fb_outside.specs.Files.{ChangesAmong, SameFiles};
+ghost use Rattle.fb_outside.specs.Files.{ChangesAmong};
 ghost use Rattle.fb_outside.specs.Reads.{AddsReads};
 ghost use Rattle.fb_outside.specs.Streams.{ForSomeInput, IsAtEnd};
 ghost use Rattle.command_words.specs.Words.{asked_by};
@@ -16,7 +16,7 @@ ghost use Rattle.commands.specs.Effects.{LeavesAfter};
 ghost use Rattle.commands.specs.Causes.{HasCauseIn};
 ghost use Rattle.fastbit_tool.specs.Completes.{Completes};
 ghost use Rattle.fastbit_tool.specs.Looks.{AskedRead};
-ghost use Rattle.fastbit_tool.specs.Requests.{AskedComesTo, AskedRuns, AskedYields, IsOfAsked, asked_of, is_session, outcome, takes_input};
+ghost use Rattle.fastbit_tool.specs.Requests.{AskedComesTo, AskedKeeps, AskedRuns, AskedYields, IsOfAsked, asked_of, is_session, outcome, takes_input};
 
 use command_words::{Job, request};
 use commands::run_command;
@@ -29,7 +29,8 @@ use steps::Steps;
 
 /// Runs what the words ask for: one command, or a session of the commands that stand in the lines of `input`. A load
 /// reads its records from `input` or from the file that it names; all keep their files in `store` and print their replies
-/// to `out`, and the call answers how it ended. A refusal prints its one line and changes no file.
+/// to `out`, and the call answers how it ended. A refusal prints its one line and changes no file, but
+/// for indexes that were built before one that is refused.
 pub fn run<I: Source, S: Store, K: Sink, L: Ledger>(
     alloc: Global,
     words: &[String],
@@ -53,10 +54,12 @@ pub fn run<I: Source, S: Store, K: Sink, L: Ledger>(
     ensures effects { ForSomeInput (I.left input.old) (λ bytes. (world : World) → StandsFor (S.files store.old) world
         → LeavesAfter (outcome (asked_of (asked_by words.now)) bytes world).effects world result (S.files store.new)) }
 
-    // Over every store: only files of datasets that loads name change, and none where the request is refused.
+    // Over every store: only files of datasets that loads name change, and indexes of columns that are asked for; and none where
+    // the request is refused, but for the indexes that were built before one that is refused.
     ensures kept { ForSomeInput (I.left input.old)
         (λ bytes. ChangesAmong (IsOfAsked (asked_of (asked_by words.now)) bytes) (S.files store.old) (S.files store.new)) }
-    ensures refused { is_fault result ≡ false → result ≢ Status.Done → SameFiles (S.files store.old) (S.files store.new) }
+    ensures refused { is_fault result ≡ false → result ≢ Status.Done
+        → AskedKeeps (asked_of (asked_by words.now)) (S.files store.old) (S.files store.new) }
 
     // Each added read is of a file of the command, by a session line by line.
     ensures reads { ForSomeInput (I.left input.old)

@@ -47,7 +47,7 @@ pub fn session<I: Source, S: Store, K: Sink, L: Ledger>(
         → LeavesAfter (session_outcome bytes world).effects world result (S.files store.new)) }
     ensures end { result ≡ Status.Done → IsAtEnd (I.left input.new) }
 
-    // Over every store: only files of datasets that its lines name change, and none where it is refused.
+    // Over every store: only files of datasets that its lines name change, and none where it is refused for its length.
     ensures kept { ForSomeInput (I.left input.old)
         (λ bytes. ChangesAmong (IsOfAsked OfSession bytes) (S.files store.old) (S.files store.new)) }
     ensures refused { ends_it result ≡ false → result ≢ Status.Done → SameFiles (S.files store.old) (S.files store.new) }

@@ -363,17 +363,17 @@ fn refuses_words_schemas_and_queries(rt: HostRuntime) -> Result<(), Fail> {
             "error 2 schema at column 1 BadType\n",
         ),
     ] {
-        expect_five(&rt, rt.blank(), &mut store, words, code, printed)?;
+        expect_words(&rt, rt.blank(), &mut store, &words, code, printed)?;
     }
     Ok(())
 }
 
-/// Runs a command of five words.
-fn expect_five<R: Abort + AllocGlobal>(
+/// Runs a command without input.
+fn expect_words<R: Abort + AllocGlobal>(
     rt: &R,
     blank: Blank,
     store: &mut MemStore,
-    words: [&'static str; 5],
+    words: &[&'static str],
     code: u8,
     printed: &'static str,
 ) -> Result<(), AllocError>
@@ -381,7 +381,7 @@ fn expect_five<R: Abort + AllocGlobal>(
 {
     let mut source = MemSource::make(rt.alloc(), b"", 1, &[])?;
     let mut out = MemSink::make(rt.alloc(), &[])?;
-    let words = owned(rt.alloc(), &words)?;
+    let words = owned(rt.alloc(), words)?;
     let done = answer::<Brand>(rt.alloc(), blank, &words, &mut source, store, &mut out);
     assert!(rt; done == code, "{}", printed);
     assert!(rt; out.written() == printed.as_bytes(), "{}", printed);
@@ -423,14 +423,8 @@ fn names_each_damaged_file(rt: HostRuntime) -> Result<(), Fail> {
             "loaded 1 rows\n",
         )?;
         keep(&rt, &mut store, file, bytes)?;
-        expect_five(
-            &rt,
-            rt.blank(),
-            &mut store,
-            ["ibis", "-d", "D", "-q", "where a < 3"],
-            8,
-            printed,
-        )?;
+        let below = ["ibis", "-d", "D", "-q", "where a < 3"];
+        expect_words(&rt, rt.blank(), &mut store, &below, 8, printed)?;
     }
     Ok(())
 }
@@ -547,5 +541,59 @@ fn a_fault_ends_a_session(rt: HostRuntime) -> Result<(), Fail> {
         &mut store,
         &make_case(&["session"], &bytes, 9, long),
     )?;
+    Ok(())
+}
+
+#[test]
+fn builds_indexes(rt: HostRuntime) -> Result<(), Fail> {
+    let mut store = MemStore::make(rt.alloc(), &[], 0)?;
+    let bytes = "host,code,bytes,path\nalpha,200,512,/a\nbeta,404,,/b\n";
+    expect_load(
+        &rt,
+        rt.blank(),
+        &mut store,
+        WEB_LOG,
+        bytes,
+        0,
+        "loaded 2 rows\n",
+    )?;
+    for (dir, spec, code, printed) in [
+        ("L", "<binning bounds=(300)/>", 0, "built 3 indexes\n"),
+        ("L", "<binning", 5, "error 5 spec Syntax\n"),
+        ("E", "", 7, "error 7 missing E/-catalog.txt\n"),
+    ] {
+        let words = ["ibis", "-d", dir, "-b", spec];
+        expect_words(&rt, rt.blank(), &mut store, &words, code, printed)?;
+    }
+    assert!(rt; store.file("L/p0000/bytes.idx").is_some());
+    assert!(rt; store.file("L/p0000/path.idx").is_none());
+    for (columns, code, printed) in [
+        ("code , HOST", 0, "built 2 indexes\n"),
+        ("code,z", 5, "error 5 spec Unknown\n"),
+        ("path,z", 5, "error 5 spec WrongType\n"),
+        ("code,code", 5, "error 5 spec Repeated\n"),
+    ] {
+        let words = ["ibis", "-d", "L", "-b", "", "-k", columns];
+        expect_words(&rt, rt.blank(), &mut store, &words, code, printed)?;
+    }
+    Ok(())
+}
+
+/// The first column is indexed before the second is refused.
+#[test]
+fn a_refused_index_leaves_those_before_it(rt: HostRuntime) -> Result<(), Fail> {
+    let mut store = MemStore::make(rt.alloc(), &[], 0)?;
+    let mut lines = Vec::new(rt.alloc());
+    for number in 0..1025u32 {
+        let line = format!(in rt.alloc(); "1,{number}\n")?;
+        lines.extend_from_slice(line.as_bytes())?;
+    }
+    let load = make_case(LOAD_TWO, &lines, 0, "loaded 1025 rows\n");
+    expect(&rt, rt.blank(), &mut store, &load)?;
+    let words = ["ibis", "-d", "V", "-b", "<encoding range/>"];
+    let many = "error 9 limit bins 1025 over 1024\n";
+    expect_words(&rt, rt.blank(), &mut store, &words, 9, many)?;
+    assert!(rt; store.file("V/p0000/a.idx").is_some());
+    assert!(rt; store.file("V/p0000/b.idx").is_none());
     Ok(())
 }

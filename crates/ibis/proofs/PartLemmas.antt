@@ -18,10 +18,11 @@ use Rattle.column_file.specs.declared.fault.ColFault.TheVariants as column_
 use Rattle.column_file.specs.Opening.{column_in, mask_in}
 use Rattle.column_file.specs.Values.{ValueFits, values_bytes, width_in}
 use Rattle.part_meta.specs.declared.part.PartMeta.{PartMeta}
-use Rattle.world.specs.PartFiles.{column_cells, is_present, number_of, part_data}
+use Rattle.world.specs.PartFiles.{part_data}
+use Rattle.world.specs.Cells.{column_cells, is_present, number_of}
 use Rattle.world.specs.World.{Partition}
 use Rattle.dataset.specs.Damage.{IsColumnDamaged}
-use Rattle.dataset.specs.InWorld.{stored_numbers}
+use Rattle.world.specs.Cells.{stored_numbers}
 use Rattle.dataset.specs.Opened.{IsDataset, IsPartOf, IsTextLook}
 use Rattle.std.proofs.lemmas.Option.{slice_get_read}
 use Rattle.dataset.specs.PartColumns.{IfDamaged, IsOpened, OpensColumn, column_at, mask_file, values_file}
@@ -29,11 +30,12 @@ use Rattle.dataset.specs.declared.content.Dataset.{Dataset}
 use Rattle.dataset.specs.declared.fault.DamageKind.TheVariants.{Length}
 use Rattle.dataset.specs.declared.fault.PartFault.{PartFault}
 use Rattle.dataset.specs.declared.fault.PartFault.TheVariants as part_
-use Rattle.dataset.proofs.ListLemmas.{All-at, map-at}
+use Rattle.world.proofs.PlaceLemmas.{All-at}
+use Rattle.dataset.proofs.ListLemmas.{map-at}
 use Rattle.statuses.specs.declared.stop.Unanswered.TheVariants.{Refused}
 use Rattle.ibis.specs.declared.rows.RowsFault.{RowsFault}
 use Rattle.ibis.specs.declared.rows.RowsFault.TheVariants.{Short, Store}
-use Rattle.ibis.specs.Count.{damaged_status}
+use Rattle.statuses.specs.Opening.{damaged_status}
 use Rattle.ibis.specs.declared.query.Below.{Below}
 use Rattle.ibis.specs.Looks.{IsAskedLook, IsColumnLook, IsCountLook}
 use Rattle.ibis.specs.Query.{read_query}

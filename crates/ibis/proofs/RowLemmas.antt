@@ -15,7 +15,7 @@ use Rattle.wah_iter.specs.Rows.{before, runs_from, runs_of}
 use Rattle.wah_iter.specs.Walks.{ComesRun}
 use Rattle.where_grammar.specs.declared.clause.Op.TheVariants.{Less}
 use Rattle.where_grammar.specs.Holds.{compares, number_passes}
-use Rattle.world.specs.PartFiles.{is_present, number_of}
+use Rattle.world.specs.Cells.{is_present, number_of}
 use Rattle.fb_outside.specs.Files.{Files}
 use Rattle.column_file.specs.declared.column.ColumnRef.{ColumnRef}
 use Rattle.ibis.specs.Rows.{HasCells, passing, smaller}

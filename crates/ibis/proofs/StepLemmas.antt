@@ -14,11 +14,12 @@ use Rattle.dataset.specs.declared.content.Dataset.{Dataset}
 use Rattle.statuses.specs.declared.Status.{Status}
 use Rattle.statuses.specs.declared.stop.Unanswered.{Unanswered}
 use Rattle.statuses.specs.declared.stop.Unanswered.TheVariants.{Refused, StoreFault, OutOfMemory}
+use Rattle.statuses.specs.Opening.{Finds, Opened}
 use Rattle.statuses.specs.Outcome.{◌>>=◌}
 use Rattle.ibis.specs.declared.query.Below.{Below}
 use Rattle.ibis.specs.Listing.{ListComes, ListGives, list_result, listing}
 use Rattle.ibis.specs.Query.{column_in, resolved, typed_or_refusal}
-use Rattle.ibis.specs.Steps.{Finds, IsAsked, Opened, StopsIn}
+use Rattle.ibis.specs.Steps.{IsAsked, StopsIn}
 
 -- ---- the column of a name
 

@@ -21,7 +21,8 @@ use Rattle.where_grammar.specs.Holds.{compares, holds, number_passes}
 use Rattle.answers.specs.Answers.{Answers}
 use Rattle.where_grammar.specs.Language.{refusal}
 use Rattle.where_grammar.proofs.Parts.{holds-one}
-use Rattle.world.specs.PartFiles.{column_cells, part_data}
+use Rattle.world.specs.PartFiles.{part_data}
+use Rattle.world.specs.Cells.{column_cells}
 use Rattle.world.specs.Stands.{Stands, StandsFor}
 use Rattle.world.specs.World.{Content, Partition, World, content_at, records_of}
 use Rattle.dataset.specs.Damage.{Damage, IsColumnDamaged}
@@ -34,13 +35,14 @@ use Rattle.statuses.specs.declared.Status.{Status}
 use Rattle.statuses.specs.declared.Status.TheVariants.{BadQuery}
 use Rattle.statuses.specs.declared.stop.Unanswered.{Unanswered}
 use Rattle.statuses.specs.declared.stop.Unanswered.TheVariants.{Refused, StoreFault, OutOfMemory}
+use Rattle.statuses.specs.Opening.{Finds, damaged_status, dataset_or_refusal}
 use Rattle.statuses.specs.Outcome.{◌>>=◌}
 use Rattle.ibis.specs.declared.query.Below.{Below}
-use Rattle.ibis.specs.Count.{CountComes, CountGives, CountsBy, CountsRecords, IsCountIn, IsDamagedIn, asked_of, counted, damaged_status, dataset_or_refusal, hits}
+use Rattle.ibis.specs.Count.{CountComes, CountGives, CountsBy, CountsRecords, IsCountIn, IsDamagedIn, asked_of, counted, hits}
 use Rattle.ibis.specs.Listing.{ListComes, list_result}
 use Rattle.ibis.specs.Query.{clause_of, read_query, resolved}
 use Rattle.ibis.specs.Rows.{HasColumn, HasParts, cells_in_parts, passing}
-use Rattle.ibis.specs.Steps.{Finds, IsAsked, StopsIn, stop_of_text}
+use Rattle.ibis.specs.Steps.{IsAsked, StopsIn, stop_of_text}
 use Rattle.ibis.proofs.RowLemmas.{passing-append, passing-cons}
 
 -- ---- what is asked

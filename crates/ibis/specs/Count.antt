@@ -5,29 +5,20 @@ use lib.Chars.{codes}
 use Rattle.fb_outside.specs.Files.{Files}
 use Rattle.where_grammar.specs.declared.clause.Clause.{Clause}
 use Rattle.where_grammar.specs.Holds.{holds}
-use Rattle.part_meta.specs.FileNames.{catalog_name}
 use Rattle.dataset.specs.Damage.{Damage, IsColumnDamaged}
 use Rattle.dataset.specs.Found.{Found, Absent, There, Broken, IsFound, found_in}
-use Rattle.dataset.specs.declared.content.Dataset.{Dataset}
 use Rattle.world.specs.Stands.{StandsFor}
 use Rattle.world.specs.World.{Content, World, content_at, records_of}
 use Rattle.statuses.specs.declared.Status.{Status}
-use Rattle.statuses.specs.declared.Status.TheVariants.{Done, NoDataset, Damaged}
+use Rattle.statuses.specs.declared.Status.TheVariants.{Done}
 use Rattle.statuses.specs.declared.stop.Unanswered.{Unanswered}
 use Rattle.statuses.specs.declared.stop.Unanswered.TheVariants.{Refused, StoreFault, OutOfMemory}
+pub use Rattle.statuses.specs.Opening.{damaged_status, dataset_or_refusal}
 use Rattle.statuses.specs.Outcome.{◌>>=◌, Outcome, refused}
 use Rattle.ibis.specs.declared.query.Below.{Below}
 use Rattle.ibis.specs.Query.{clause_of, query_or_refusal, read_query, resolved}
 
 -- ---- the refusals, whose causes the query and the path have
-
-abbrev pub damaged_status : Damage → Status
-damaged_status found = Damaged found.file found.kind found.want found.have
-
-abbrev pub dataset_or_refusal : List ℕ → Found → Result Dataset Status
-dataset_or_refusal dir Absent = Err (NoDataset (catalog_name dir))
-dataset_or_refusal dir (There dataset) = Ok dataset
-dataset_or_refusal dir (Broken damage) = Err (damaged_status damage)
 
 -- what is asked, where neither the query, nor what the path has, nor the name is refused
 unfoldable pub asked_of : (dir query : List ℕ) → Found → Result Below Status

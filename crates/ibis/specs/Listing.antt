@@ -13,8 +13,8 @@ use Rattle.statuses.specs.declared.Status.{Status}
 use Rattle.statuses.specs.declared.Status.TheVariants.{Done}
 use Rattle.statuses.specs.declared.stop.Unanswered.{Unanswered}
 use Rattle.statuses.specs.declared.stop.Unanswered.TheVariants.{Refused, StoreFault, OutOfMemory}
+use Rattle.statuses.specs.Opening.{dataset_or_refusal}
 use Rattle.statuses.specs.Outcome.{◌>>=◌, Outcome, refused}
-use Rattle.ibis.specs.Count.{dataset_or_refusal}
 
 unfoldable pub schema_line : List Column → List ℕ
 schema_line schema = codes "schema " ++ (schema_text schema ++ codes "\n")

@@ -9,7 +9,8 @@ use Rattle.column_file.specs.declared.column.ColumnRef.{ColumnRef}
 use Rattle.column_file.specs.Values.{ValueFits, values_bytes}
 use Rattle.where_grammar.specs.declared.clause.Op.TheVariants.{Less}
 use Rattle.where_grammar.specs.Holds.{compares, number_passes}
-use Rattle.world.specs.PartFiles.{column_cells, is_present, number_of, part_data}
+use Rattle.world.specs.PartFiles.{part_data}
+use Rattle.world.specs.Cells.{column_cells, is_present, number_of}
 use Rattle.world.specs.World.{Partition}
 use Rattle.dataset.specs.InWorld.{HasNumbers}
 use Rattle.dataset.specs.declared.content.Dataset.{Dataset}

@@ -10,18 +10,17 @@ use Rattle.where_grammar.specs.declared.clause.ClauseFault.TheVariants as text
 use Rattle.where_grammar.specs.declared.clause.QueryKind.{QueryKind}
 use Rattle.where_grammar.specs.declared.clause.QueryKind.TheVariants.{Syntax, Unknown, WrongType}
 use Rattle.dataset.specs.Damage.{Damage, IsColumnDamaged}
-use Rattle.dataset.specs.Found.{Found, IsFound}
 use Rattle.dataset.specs.declared.content.Dataset.{Dataset}
 use Rattle.dataset.specs.declared.fault.PartFault.{PartFault}
 use Rattle.dataset.specs.declared.fault.PartFault.TheVariants as part
 use Rattle.statuses.specs.declared.Status.{Status}
 use Rattle.statuses.specs.declared.Status.TheVariants.{BadQuery}
+use Rattle.statuses.specs.Opening.{damaged_status}
 use Rattle.statuses.specs.declared.stop.Unanswered.{Unanswered}
 use Rattle.statuses.specs.declared.stop.Unanswered.TheVariants.{Refused, StoreFault, OutOfMemory}
 use Rattle.ibis.specs.declared.query.Below.{Below}
 use Rattle.ibis.specs.declared.query.NameFault.{NameFault}
 use Rattle.ibis.specs.declared.query.NameFault.TheVariants as fault
-use Rattle.ibis.specs.Count.{damaged_status, dataset_or_refusal}
 use Rattle.ibis.specs.Query.{resolved}
 
 -- ---- the query's text
@@ -33,20 +32,6 @@ asked_as (Some below) = Ok below
 abbrev pub stop_of_text : ClauseFault → Unanswered
 stop_of_text (text.Bad kind) = Refused (BadQuery kind)
 stop_of_text text.OutOfMemory = OutOfMemory
-
--- ---- the dataset
-
--- what the path has is a dataset, or refused
-pub record Opened (dir : List ℕ) (files : Option Files) (result : Result Dataset Status) : Type 0 where
-  pub found : Found
-  pub told : IfSome files (λ m. IsFound m dir found)
-  pub is : dataset_or_refusal dir found ≡ result
-
-abbrev pub Finds : List ℕ → Option Files → Result Dataset Unanswered → Type 0
-Finds dir files (Ok dataset) = Opened dir files (Ok dataset)
-Finds dir files (Err (Refused status)) = Opened dir files (Err status)
-Finds dir files (Err StoreFault) = ⊤
-Finds dir files (Err OutOfMemory) = ⊤
 
 -- ---- the column
 

@@ -17,14 +17,14 @@ ghost use Rattle.ibis.specs.Rows.{HasColumn, HasParts, cells_in_parts, passing};
 ghost use Rattle.ibis.specs.Steps.{StopsIn};
 ghost use Rattle.part_meta.specs.PartText.{most_rows};
 
-use crate::opening::{damaged, opened, stop_of_part};
+use crate::opening::stop_of_part;
 use crate::query::{Below, NameFault, bad_query, below_of, resolve, stop_of_text};
 use crate::rows::{RowsFault, count_rows};
 use dataset::{DamageKind, Dataset, open_part_column};
 use fb_outside::{FileName, Store};
 use fb_types::{Column, Label};
 use part_meta::PartMeta;
-use statuses::Unanswered;
+use statuses::{Unanswered, damaged, opened};
 use std::alloc::Global;
 use std::sync::ledger::Ledger;
 use steps::Steps;

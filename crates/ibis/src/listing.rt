@@ -8,12 +8,11 @@ ghost use Rattle.fb_outside.specs.Reads.{AddsOnly};
 ghost use Rattle.dataset.specs.Opened.{IsTextLook};
 ghost use Rattle.ibis.specs.Listing.{ListGives, listing, part_line, schema_line, text_of};
 
-use crate::opening::opened;
 use dataset::Dataset;
 use fb_outside::{FileName, Store};
 use fb_types::{Schema, print_schema};
 use part_meta::PartMeta;
-use statuses::Unanswered;
+use statuses::{Unanswered, opened};
 use std::alloc::{AllocError, Global};
 
 /// The lines of the schema and of the parts of the dataset at the path. No file changes.

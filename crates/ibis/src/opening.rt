@@ -1,52 +1,10 @@
-//! The dataset at a path, and what opening answers as a refusal.
+//! What a column that isn't opened is answered by.
 
-ghost use Rattle.std.specs.Prelude.{◌≡◌, IfOk, IsErrOf};
-ghost use Rattle.fb_outside.specs.Causes.{HasCause};
-ghost use Rattle.fb_outside.specs.Files.{SameFiles};
-ghost use Rattle.fb_outside.specs.Names.{IsPath};
-ghost use Rattle.fb_outside.specs.Reads.{AddsOnly};
-ghost use Rattle.dataset.specs.Opened.{IsDataset, IsTextLook};
-ghost use Rattle.ibis.specs.Count.{damaged_status};
-ghost use Rattle.ibis.specs.Steps.{Finds, stop_of_part};
+ghost use Rattle.std.specs.Prelude.{◌≡◌};
+ghost use Rattle.ibis.specs.Steps.{stop_of_part};
 
-use dataset::{DamageKind, Dataset, OpenFault, PartFault, open_dataset};
-use fb_outside::{FileName, Store};
-use part_meta::catalog_of;
-use statuses::{Status, Unanswered};
-use std::alloc::Global;
-
-/// The dataset at the path.
-pub(crate) fn opened<S: Store>(
-    alloc: Global,
-    store: &mut S,
-    dir: &FileName,
-) -> Result<Dataset, Unanswered>
-    requires path { IsPath dir.now }
-    ensures cause { HasCause (S.faults store.old) (S.faults store.new) (IsErrOf result Unanswered.StoreFault) }
-    ensures files { SameFiles (S.files store.old) (S.files store.new) }
-    ensures valid { IfOk result IsDataset }
-    ensures path { IfOk result (λ dataset. dataset.dir ≡ dir.now) }
-    ensures reads { AddsOnly (IsTextLook dir.now) (S.reads store.old) (S.reads store.new) }
-    ensures finds { Finds dir.now (S.files store.old) result }
-{
-    match open_dataset(alloc, store, dir) {
-        Ok(dataset) => Ok(dataset),
-        Err(OpenFault::NoDataset) => {
-            let file = catalog_of(alloc, dir)?;
-            Err(Unanswered::Refused(Status::NoDataset { file }))
-        }
-        Err(
-            OpenFault::Damaged {
-                file,
-                kind,
-                want,
-                have,
-            },
-        ) => Err(damaged(file, kind, want, have)),
-        Err(OpenFault::Store) => Err(Unanswered::StoreFault),
-        Err(OpenFault::OutOfMemory) => Err(Unanswered::OutOfMemory),
-    }
-}
+use dataset::PartFault;
+use statuses::{Unanswered, damaged};
 
 /// The answer to a column that isn't opened.
 pub(crate) fn stop_of_part(fault: PartFault) -> Unanswered
@@ -62,15 +20,4 @@ pub(crate) fn stop_of_part(fault: PartFault) -> Unanswered
         PartFault::Store => Unanswered::StoreFault,
         PartFault::OutOfMemory => Unanswered::OutOfMemory,
     }
-}
-
-pub(crate) fn damaged(file: FileName, kind: DamageKind, want: u64, have: u64) -> Unanswered
-    ensures { result ≡ Unanswered.Refused (damaged_status (record { file = file; kind = kind; want = want; have = have })) }
-{
-    Unanswered::Refused(Status::Damaged {
-        file,
-        kind,
-        want,
-        have,
-    })
 }

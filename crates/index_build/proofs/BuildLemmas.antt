@@ -1,13 +1,18 @@
 -- An index is built of an opened column, and its reads and files are the column's.
-use Rattle.std.proofs.Common.{◌≡◌, ◌≢◌, inl, inr, ◌*◌, ◌<◌, ℕ, ℤ, Bool, List, Option, Some, Result, Ok, Err, length, map, take, refl, sym, ap, subst, ◌∙◌, arith}
-use Rattle.std.specs.Prelude.{IfErr, IsErrOf, OnOk}
+use Rattle.std.proofs.Common.{◌≡◌, ◌≢◌, inl, inr, ◌*◌, ◌<◌, ◌≤◌, ℕ, ℤ, Bool, List, Option, Some, Result, Ok, Err, IsSome, length, map, take, refl, sym, ap, subst, ◌∙◌, arith}
+use Rattle.std.specs.Prelude.{IfErr, IfSome}
+use Rattle.std.specs.List.{All}
 use Rattle.std.proofs.Math.Seq.{take-length}
-use Rattle.fb_outside.specs.Files.{ChangesOnly, Files, PutLeaves, Puts, SameFiles, told_at}
+use Rattle.fb_outside.specs.Files.{ChangesOnly, Files, PutLeaves, SameFiles, file_at, told_at}
 use Rattle.fb_outside.specs.Reads.{AddsOnly, IsWholeLook, Look}
 use Rattle.fb_outside.proofs.ReadLemmas.{AddsOnly-trans, AddsOnly-weaken}
 use Rattle.fb_types.specs.declared.schemas.Column.{Column}
+use Rattle.fb_types.specs.declared.types.ColType.{ColType}
+use Rattle.wah_words.specs.Bytes.{spelling}
 use Rattle.column_file.specs.declared.column.ColumnRef.{ColumnRef}
+use Rattle.index_spec.specs.Counts.{bitmap_count}
 use Rattle.index_spec.specs.Language.{IsGivenBinning}
+use Rattle.index_spec.specs.declared.spec.EncodingSpec.{EncodingSpec}
 use Rattle.index_spec.specs.declared.spec.Spec.{Spec}
 use Rattle.part_meta.specs.declared.part.PartMeta.{PartMeta}
 use Rattle.binning.specs.Bins.{bins_of, cells, present}
@@ -15,18 +20,25 @@ use Rattle.binning.specs.Keys.{keying_of}
 use Rattle.binning.specs.declared.gathering.Bin.{Bin}
 use Rattle.binning.proofs.ColumnLemmas.{length-cells}
 use Rattle.binning.proofs.KeyLemmas.{kept_of}
-use Rattle.dataset.specs.PartColumns.{IsOpened, mask_file}
+use Rattle.dataset.specs.PartColumns.{IsOpened, OpensColumn, column_at, mask_file}
+use Rattle.dataset.specs.declared.fault.PartFault.{PartFault}
+use Rattle.dataset.specs.declared.fault.PartFault.TheVariants as unopened
 use Rattle.dataset.specs.declared.content.Dataset.{Dataset}
 use Rattle.binning.specs.Encodings.{vectors}
 use Rattle.binning.specs.Members.{bitmaps_of}
-use Rattle.column_file.specs.Values.{width_in}
-use Rattle.fb_outside.proofs.FileLemmas.{ChangesAmong-same, ChangesOnly-left, ChangesOnly-puts}
+use Rattle.column_file.specs.Opening.{column_in}
+use Rattle.column_file.specs.Values.{ValueFits, values_bytes, width_in}
+use Rattle.column_file.proofs.OpeningLemmas.{column_opens}
+use Rattle.column_file.proofs.ValuesLemmas.{length-values_bytes}
+use Rattle.fb_outside.proofs.FileLemmas.{ChangesAmong-same, ChangesOnly-puts}
 use Rattle.index_file.specs.IndexFile.{index_bytes}
 use Rattle.index_build.specs.declared.fault.BuildFault.{BuildFault}
 use Rattle.index_build.specs.declared.fault.BuildFault.TheVariants.{Damaged, TooManyBins, Store, OutOfMemory}
 use Rattle.index_build.specs.declared.writing.Built.{Built}
-use Rattle.index_build.specs.Build.{IsColumnLook, IsShort, StopsColumn}
-use Rattle.index_build.specs.Index.{AreBinsOf, AreOfColumn, HasNumbers, bins_by, edge_of, index_of, keys_by}
+use Rattle.index_build.specs.Build.{AnswersOver, HasRows, IsColumnLook, IsShort, LeavesIndex, StopsColumn, bin_count, fault_of_part}
+use Rattle.index_build.proofs.IndexLemmas.{over_limit}
+use Rattle.index_build.specs.Index.{AreBinsOf, AreOfColumn, HasNumbers, Tells}
+use Rattle.world.specs.IndexFiles.{bins_by, edge_of, index_of, keys_by}
 
 -- what was read of a column makes bins of a column
 pub read_bins : (files : Option Files) (column : ColumnRef) (spec : Spec) (bins : List Bin) → IsGivenBinning spec.binning → length column.mask ≡ column.rows
@@ -61,28 +73,65 @@ part_looks files dataset part column opened old mid new few is h k =
 
 -- ---- what is written
 
-pub built_index : (r : Result Built BuildFault) (spec : Spec) (mask : List Bool) (numbers : List ℤ) (bins : List Bin) (rows : ℕ) (old mid new : Option Files)
-    (name : List ℕ) → mid ≡ old → bins ≡ bins_by spec mask numbers → length mask ≡ rows
-    → OnOk r (Puts mid new name (index_bytes rows spec (map edge_of bins) (bitmaps_of spec.encoding rows (vectors bins))))
-    → OnOk r (Puts old new name (index_of spec mask numbers))
+index-bytes : (spec : Spec) (mask : List Bool) (numbers : List ℤ) (bins : List Bin) (rows : ℕ) → bins ≡ bins_by spec mask numbers → length mask ≡ rows
+    → index_bytes rows spec (map edge_of bins) (bitmaps_of spec.encoding rows (vectors bins)) ≡ index_of spec mask numbers
 unfolding index_of
-built_index r spec mask numbers bins rows old mid new name kept are size h =
-    subst (λ (files : Option Files). OnOk r (Puts files new name (index_of spec mask numbers))) kept
-    (subst (λ (bs : List Bin). OnOk r (Puts mid new name (index_bytes (length mask) spec (map edge_of bs) (bitmaps_of spec.encoding (length mask) (vectors bs))))) are
-    (subst (λ (n : ℕ). OnOk r (Puts mid new name (index_bytes n spec (map edge_of bins) (bitmaps_of spec.encoding n (vectors bins))))) (sym size) h))
+index-bytes spec mask numbers bins rows are size =
+    ap (λ (bs : List Bin). index_bytes rows spec (map edge_of bs) (bitmaps_of spec.encoding rows (vectors bs))) are
+    ∙ ap (λ (n : ℕ). index_bytes n spec (map edge_of (bins_by spec mask numbers)) (bitmaps_of spec.encoding n (vectors (bins_by spec mask numbers)))) (sym size)
 
-pub written_kept : (r : Result Built BuildFault) (name bytes : List ℕ) (old mid new : Option Files) → mid ≡ old → OnOk r (Puts mid new name bytes)
-    → (IsErrOf r Store → PutLeaves name bytes mid new) → IfErr r (λ fault. fault ≢ Store → SameFiles mid new) → ChangesOnly name old new
-written_kept r name bytes old mid new same ok store refused =
-    subst (λ (files : Option Files). ChangesOnly name files new) same (by r ok store refused)
+-- what is written of the bins that were read is the index of the rows
+pub leaves_read : (r : Result Built BuildFault) (spec : Spec) (mask : List Bool) (numbers : List ℤ) (bins : List Bin) (rows : ℕ) (name : List ℕ)
+    (old mid new : Option Files) → mid ≡ old → bins ≡ bins_by spec mask numbers → length mask ≡ rows
+    → LeavesIndex spec.encoding (length bins) name (index_bytes rows spec (map edge_of bins) (bitmaps_of spec.encoding rows (vectors bins))) r mid new
+    → LeavesIndex spec.encoding (bin_count spec mask numbers) name (index_of spec mask numbers) r old new
+leaves_read r spec mask numbers bins rows name old mid new kept are size h =
+    subst (λ (files : Option Files). LeavesIndex spec.encoding (bin_count spec mask numbers) name (index_of spec mask numbers) r files new) kept
+    (subst (λ (n : ℕ). LeavesIndex spec.encoding n name (index_of spec mask numbers) r mid new) (ap length are)
+    (subst (λ (bytes : List ℕ). LeavesIndex spec.encoding (length bins) name bytes r mid new) (index-bytes spec mask numbers bins rows are size) h))
+
+pub answers_read : (r : Result Built BuildFault) (spec : Spec) (mask : List Bool) (numbers : List ℤ) (bins : List Bin) → bins ≡ bins_by spec mask numbers
+    → AnswersOver spec.encoding (length bins) r → AnswersOver spec.encoding (bin_count spec mask numbers) r
+answers_read r spec mask numbers bins are h = subst (λ (n : ℕ). AnswersOver spec.encoding n r) (ap length are) h
+
+pub written_kept : (r : Result Built BuildFault) (encoding : EncodingSpec) (n : ℕ) (name bytes : List ℕ) (old mid new : Option Files) → mid ≡ old
+    → LeavesIndex encoding n name bytes r mid new → ChangesOnly name old new
+written_kept r encoding n name bytes old mid new same h = subst (λ (files : Option Files). ChangesOnly name files new) same (by r h)
   where
-    by : (r : Result Built BuildFault) → OnOk r (Puts mid new name bytes) → (IsErrOf r Store → PutLeaves name bytes mid new)
-        → IfErr r (λ fault. fault ≢ Store → SameFiles mid new) → ChangesOnly name mid new
-    by (Ok built) ok store refused = ChangesOnly-puts mid new name bytes ok
-    by (Err Store) ok store refused = ChangesOnly-left mid new name bytes (store refl)
-    by (Err OutOfMemory) ok store refused = ChangesAmong-same mid new (refused (λ e. cc))
-    by (Err (TooManyBins bins limit)) ok store refused = ChangesAmong-same mid new (refused (λ e. cc))
-    by (Err (Damaged file kind want have)) ok store refused = ChangesAmong-same mid new (refused (λ e. cc))
+    by : (r : Result Built BuildFault) → LeavesIndex encoding n name bytes r mid new → ChangesOnly name mid new
+    by (Ok built) h = ChangesOnly-puts mid new name bytes h.0
+    by (Err fault) (inl same) = ChangesAmong-same mid new same
+    by (Err fault) (inr put) = ChangesOnly-puts mid new name bytes put.0
+
+pub stops_written : (r : Result Built BuildFault) (files : Option Files) (column : ColumnRef) (spec : Spec) (bins : List Bin)
+    → ((numbers : List ℤ) → HasNumbers files column numbers → bins ≡ bins_by spec column.mask numbers)
+    → AnswersOver spec.encoding (length bins) r → IfErr r (StopsColumn files column spec)
+stops_written (Ok built) files column spec bins told h = tt
+stops_written (Err (Damaged file kind want have)) files column spec bins told h = absurd h
+stops_written (Err (TooManyBins bins' limit)) files column spec bins told h = (
+  h.2,
+  subst (λ (n : ℕ). 1024 < n) (sym h.1) (over_limit spec.encoding (length bins) h.0),
+  λ numbers has. ap (λ (bs : List Bin). bitmap_count spec.encoding (length bs)) (sym (told numbers has)) ∙ h.0,
+)
+stops_written (Err Store) files column spec bins told h = tt
+stops_written (Err OutOfMemory) files column spec bins told h = tt
+
+pub answers_told : (encoding : EncodingSpec) (n : ℕ) (fault : BuildFault) → Tells encoding n fault → AnswersOver encoding n (Err fault)
+answers_told encoding n (Damaged file kind want have) h = h
+answers_told encoding n (TooManyBins bins limit) h = h
+answers_told encoding n Store h = tt
+answers_told encoding n OutOfMemory h = tt
+
+pub leaves_put : (encoding : EncodingSpec) (n : ℕ) (name bytes : List ℕ) (fault : BuildFault) (old new : Option Files) → PutLeaves name bytes old new
+    → IsSome (bitmap_count encoding n) → LeavesIndex encoding n name bytes (Err fault) old new
+leaves_put encoding n name bytes fault old new (inl same) some = inl same
+leaves_put encoding n name bytes fault old new (inr put) some = inr (put, some)
+
+-- what stopped before anything was written
+pub leaves_stopped : (r : Result Built BuildFault) (encoding : EncodingSpec) (n : ℕ) (name bytes : List ℕ) (old new : Option Files)
+    → ((built : Built) → r ≢ Ok built) → SameFiles old new → LeavesIndex encoding n name bytes r old new
+leaves_stopped (Ok built) encoding n name bytes old new never same = absurd (never built refl)
+leaves_stopped (Err fault) encoding n name bytes old new never same = inl same
 
 pub short_stops : (files : Option Files) (column : ColumnRef) (spec : Spec) (want have : ℕ) (fault : BuildFault)
     → ((bytes : List ℕ) → told_at files column.name ≡ Some bytes → length bytes ≢ column.rows * width_in column.ty)
@@ -91,3 +140,59 @@ short_stops files column spec want have (Damaged file kind want' have') other h 
 short_stops files column spec want have OutOfMemory other h = tt
 short_stops files column spec want have (TooManyBins bins limit) other h = absurd h
 short_stops files column spec want have Store other h = absurd h
+
+-- the bytes of numbers are as many as a column of them has
+pub numbers_whole : (files : Option Files) (column : ColumnRef) (numbers : List ℤ) → HasNumbers files column numbers
+    → length (values_bytes column.ty numbers) ≡ column.rows * width_in column.ty
+numbers_whole files column numbers has = length-values_bytes column.ty numbers ∙ ap (λ (n : ℕ). n * width_in column.ty) has.rows
+
+-- ---- a part's column, opened
+
+-- files with these rows open
+rows_open : (files : Files) (dataset : Dataset) (part : PartMeta) (column : Column) (mask : List Bool) (numbers : List ℤ) → part.rows ≤ 4194304
+    → HasRows files dataset.dir part column mask numbers → column_at files dataset part column ≡ Ok mask
+rows_open files dataset part column mask numbers few has =
+    let w = width_in column.ty in
+    ap (λ (o : Option (List ℕ)). column_in w part.rows o (file_at files (mask_file dataset part column))) has.values
+    ∙ ap (λ (o : Option (List ℕ)). column_in w part.rows (Some (values_bytes column.ty numbers)) o) has.present
+    ∙ ap (λ (k : ℕ). column_in w k (Some (values_bytes column.ty numbers)) (Some (spelling mask))) (sym has.each)
+    ∙ column_opens column.ty numbers mask (omega (arith, has.long, few)) (has.long ∙ sym has.each)
+
+pub unopened_answers : (files : Option Files) (m : Files) (dataset : Dataset) (part : PartMeta) (column : Column) (mask : List Bool) (numbers : List ℤ)
+    (encoding : EncodingSpec) (n : ℕ) (fault : PartFault) → part.rows ≤ 4194304 → files ≡ Some m
+    → IfSome files (λ told. OpensColumn told dataset part column (Err fault)) → HasRows m dataset.dir part column mask numbers
+    → AnswersOver encoding n (Err (fault_of_part fault))
+unopened_answers files m dataset part column mask numbers encoding n (unopened.Damaged file kind want have) few told h has =
+    let found = subst (λ (o : Option Files). IfSome o (λ told. OpensColumn told dataset part column (Err (unopened.Damaged file kind want have)))) told h in
+    let bad : Ok mask ≡ Err found.0 = sym (rows_open m dataset part column mask numbers few has) ∙ found.1 in absurd (cc)
+unopened_answers files m dataset part column mask numbers encoding n unopened.Store few told h has = tt
+unopened_answers files m dataset part column mask numbers encoding n unopened.OutOfMemory few told h has = tt
+
+pub opened_mask : (files : Option Files) (m : Files) (dataset : Dataset) (part : PartMeta) (column : Column) (mask : List Bool) (numbers : List ℤ)
+    (opened : ColumnRef) → part.rows ≤ 4194304 → files ≡ Some m → IfSome files (λ told. OpensColumn told dataset part column (Ok opened))
+    → HasRows m dataset.dir part column mask numbers → opened.mask ≡ mask
+opened_mask files m dataset part column mask numbers opened few told h has =
+    let found : column_at m dataset part column ≡ Ok opened.mask
+    = subst (λ (o : Option Files). IfSome o (λ told. OpensColumn told dataset part column (Ok opened))) told h in
+    let both : Ok opened.mask ≡ Ok mask = sym found ∙ rows_open m dataset part column mask numbers few has in
+    cc
+
+pub opened_numbers : (files : Option Files) (m : Files) (dataset : Dataset) (part : PartMeta) (column : Column) (mask : List Bool) (numbers : List ℤ)
+    (opened : ColumnRef) → files ≡ Some m → IsOpened dataset part column opened → HasRows m dataset.dir part column mask numbers
+    → HasNumbers files opened numbers
+opened_numbers files m dataset part column mask numbers opened told is has =
+    record {
+      told = ap (λ (o : Option Files). told_at o opened.name) told ∙ ap (file_at m) is.file ∙ has.values
+          ∙ ap (λ (ty : ColType). Some (values_bytes ty numbers)) (sym is.typed);
+      fit = subst (λ (ty : ColType). All (λ number. ValueFits number ty) numbers) (sym is.typed) has.fit;
+      rows = has.each ∙ sym is.rows;
+    }
+
+pub leaves_opened : (r : Result Built BuildFault) (spec : Spec) (opened mask : List Bool) (numbers : List ℤ) (given name : List ℕ) (old mid new : Option Files)
+    → opened ≡ mask → given ≡ name → mid ≡ old
+    → LeavesIndex spec.encoding (bin_count spec opened numbers) given (index_of spec opened numbers) r mid new
+    → LeavesIndex spec.encoding (bin_count spec mask numbers) name (index_of spec mask numbers) r old new
+leaves_opened r spec opened mask numbers given name old mid new same called kept h =
+    subst (λ (bits : List Bool). LeavesIndex spec.encoding (bin_count spec bits numbers) name (index_of spec bits numbers) r old new) same
+    (subst (λ (q : List ℕ). LeavesIndex spec.encoding (bin_count spec opened numbers) q (index_of spec opened numbers) r old new) called
+    (subst (λ (files : Option Files). LeavesIndex spec.encoding (bin_count spec opened numbers) given (index_of spec opened numbers) r files new) kept h))

@@ -2,6 +2,7 @@
 use Rattle.std.proofs.Common.{◌≡◌, ◌+◌, ◌-◌, ◌*◌, ◌<◌, ◌≤◌, ◌^◌, ℕ, zero, suc, ℤ, Bool, true, false, cond, List, [], ◌∷◌, ◌++◌, Option, Some, None, IsSome, length, map, min, nat_lt, nat_eq, unwrap_or, option_map, int_lt, ◌<ℤ◌, refl, sym, ap, subst, ◌∙◌, arith}
 use Rattle.std.specs.Int.{div_ceil}
 use Rattle.std.specs.List.{All, AllByRecursion, filter_map, range_with_len}
+use Rattle.std.proofs.lemmas.Bool.Decides.{nat_tests}
 use Rattle.std.proofs.lemmas.Grind.{div_ceil_times}
 use Rattle.std.proofs.lemmas.List.{length-map}
 use Rattle.std.proofs.lemmas.List.FromFn.{length-range_with_len}
@@ -24,12 +25,13 @@ use Rattle.index_file.specs.declared.edge.Edge.{Edge}
 use Rattle.wah_words.specs.Limits.{most_bits}
 use Rattle.binning.specs.Bins.{bin_of, bins_of, cells, has_key, present}
 use Rattle.binning.specs.Keys.{key, put, rising}
-use Rattle.binning.specs.Encodings.{vectors}
+use Rattle.binning.specs.Encodings.{nested_bins, vectors}
 use Rattle.binning.specs.Order.{BinsRise}
 use Rattle.binning.specs.Members.{AreBins, bitmap, bitmaps_of}
 use Rattle.binning.specs.declared.gathering.Bin.{Bin}
 use Rattle.binning.specs.declared.rules.Keying.{Keying}
-use Rattle.index_build.specs.Index.{AreOfColumn, edge_of}
+use Rattle.index_build.specs.Index.{AreOfColumn}
+use Rattle.world.specs.IndexFiles.{edge_of}
 
 -- ---- there are at most as many bins as rows
 
@@ -125,6 +127,35 @@ few_bitmaps Range n c groups h = omega (arith, coarse_few coarse.Range n c h)
 few_bitmaps Interval n c groups h = omega (arith, coarse_few coarse.Interval n c h)
 few_bitmaps (TwoLevel level ncoarse) n c groups h = two_few level ncoarse n c groups h
 
+-- ---- too many
+
+over : (a b : Bool) (x : ℕ) → cond a None (cond b (Some 0) (Some x)) ≡ None → a ≡ true
+over true b x e = refl
+over false true x e = absurd (cc)
+over false false x e = absurd (cc)
+
+coarse_over : (level : Coarse) (n : ℕ) → coarse_count level n ≡ None → 1024 < n
+coarse_over coarse.Equality n e = absurd (cc)
+coarse_over coarse.Range n e =
+    let more : nat_lt 1024 n ≡ true = over (nat_lt 1024 n) (nat_eq n 0) (n - 1) e in
+    grind (arith, nat_tests)
+coarse_over coarse.Interval n e =
+    let more : nat_lt 1024 n ≡ true = over (nat_lt 1024 n) (nat_eq n 0) (n - div_ceil n 2 + 1) e in
+    grind (arith, nat_tests)
+
+levels_over : (b : Bool) (n : ℕ) (count : Option ℕ) → cond b (Some 0) (option_map (λ q. n + q) count) ≡ None → count ≡ None
+levels_over true n count e = absurd (cc)
+levels_over false n None e = refl
+levels_over false n (Some q) e = absurd (cc)
+
+-- where an encoding has no number of bitmaps, it stands on over 1,024 bins or groups
+pub over_limit : (e : EncodingSpec) (n : ℕ) → bitmap_count e n ≡ None → 1024 < nested_bins e n
+over_limit Equality n h = coarse_over coarse.Equality n h
+over_limit Range n h = coarse_over coarse.Range n h
+over_limit Interval n h = coarse_over coarse.Interval n h
+over_limit (TwoLevel level ncoarse) n h =
+    coarse_over level (groups_of n ncoarse) (levels_over (nat_eq n 0) n (coarse_count level (groups_of n ncoarse)) h)
+
 -- ---- the bins of a column
 
 each_long : (keys : Keying) (column : List (Option ℤ)) (ks : List ℤ) → AllByRecursion (λ b. length b.rows ≡ length column) (map (bin_of keys column) ks)
@@ -160,6 +191,14 @@ module _ (rows : ℕ) (bins : List Bin) (of : AreOfColumn rows bins) where
   ordered : first_out_of_order (map edge_of bins) ≡ None
   ordered = rw of.are (of_order (map edge_of (bins_of of.keys of.column)) (in_order (bins_of of.keys of.column) (bins_rise of.keys of.column of.kept)))
 
+  -- they have as many bitmaps as their encoding has of them
+  pub of_column_counted : (e : EncodingSpec) → IsSome (bitmap_count e (length bins))
+      → bitmap_count e (length bins) ≡ Some (length (bitmaps_of e rows (vectors bins)))
+  of_column_counted e some =
+      let same : length (vectors bins) ≡ length bins = length-map bins (λ b. b.rows) in
+      subst (λ (n : ℕ). bitmap_count e n ≡ Some (length (bitmaps_of e rows (vectors bins)))) same
+      (bitmaps_counted e rows (vectors bins) (subst (λ (n : ℕ). IsSome (bitmap_count e n)) (sym same) some))
+
   -- the bins and their bitmaps are an index
   pub of_column_index : (spec : Spec) (edges : List Edge) (bitmaps : List (List Bool)) → IsGiven spec → rows ≤ most_bits
       → IsSome (bitmap_count spec.encoding (length bins)) → edges ≡ map edge_of bins → bitmaps ≡ bitmaps_of spec.encoding rows (vectors bins)
@@ -167,10 +206,7 @@ module _ (rows : ℕ) (bins : List Bin) (of : AreOfColumn rows bins) where
   of_column_index spec edges bitmaps given few some edges_are bitmaps_are =
       let e = spec.encoding in
       let all = bitmaps_of e rows (vectors bins) in
-      let same : length (vectors bins) ≡ length bins = length-map bins (λ b. b.rows) in
-      let counted : bitmap_count e (length bins) ≡ Some (length all) =
-      subst (λ (n : ℕ). bitmap_count e n ≡ Some (length all)) same
-      (bitmaps_counted e rows (vectors bins) (subst (λ (n : ℕ). IsSome (bitmap_count e n)) (sym same) some)) in
+      let counted : bitmap_count e (length bins) ≡ Some (length all) = of_column_counted e some in
       let bound : length all ≤ 2 * length bins + 1 = few_bitmaps e (length bins) (length all) (HasGroups-given e given.1) counted in
       let long : All (λ v. length v ≡ rows) (vectors bins) = of_column_apart.long in
       rw (edges_are, bitmaps_are) (record {

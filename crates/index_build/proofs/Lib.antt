@@ -1,3 +1,4 @@
 pub mod ReadingLemmas
 pub mod IndexLemmas
 pub mod BuildLemmas
+pub mod BuiltLemmas

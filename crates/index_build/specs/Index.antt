@@ -1,4 +1,4 @@
--- The index of a column: its bins by the keys that the binning says, their bitmaps, and the bytes of its file.
+-- What is read of a column for its index, and what is written.
 use Rattle.std.specs.Prelude.{◌≡◌, ℕ, ℤ, Bool, List, ⊤, Option, Some, None, IsSome, length, map, take}
 use Rattle.fb_outside.specs.Files.{Files, told_at}
 use Rattle.column_file.specs.declared.column.ColumnRef.{ColumnRef}
@@ -21,21 +21,6 @@ use Rattle.index_build.specs.declared.reading.ReadFault.{ReadFault}
 use Rattle.index_build.specs.declared.reading.ReadFault.TheVariants.{Short}
 use Rattle.index_build.specs.declared.reading.ReadFault.TheVariants as reading
 
--- the bins of the numbers of the rows that have one
-abbrev pub bins_by : Spec → List Bool → List ℤ → List Bin
-bins_by spec mask numbers = bins_of (keying_of spec.binning (present (cells mask numbers))) (cells mask numbers)
-
-abbrev pub edge_of : Bin → Edge
-edge_of bin = record { least = bin.least; greatest = bin.greatest }
-
-abbrev pub bitmaps_by : Spec → List Bool → List ℤ → List (List Bool)
-bitmaps_by spec mask numbers = bitmaps_of spec.encoding (length mask) (vectors (bins_by spec mask numbers))
-
--- the file of a column with these rows and numbers
-unfoldable pub index_of : Spec → List Bool → List ℤ → List ℕ
-index_of spec mask numbers =
-    index_bytes (length mask) spec (map edge_of (bins_by spec mask numbers)) (bitmaps_by spec mask numbers)
-
 -- ---- what is read of a column
 
 -- the values file of a column has these numbers, one a row
@@ -55,10 +40,6 @@ pub record AreBinsOf (files : Option Files) (column : ColumnRef) (keys : List �
   pub numbers : List ℤ
   pub read : AreRead files column column.rows numbers
   pub are : bins ≡ bins_of (keys numbers) (cells column.mask numbers)
-
--- the keys that a specification says over a column
-abbrev pub keys_by : Spec → List Bool → List ℤ → Keying
-keys_by spec mask numbers = keying_of spec.binning (present (cells mask numbers))
 
 -- ---- what is written
 

@@ -1,2 +1,3 @@
 pub mod Index
 pub mod Build
+pub mod Built

@@ -1,19 +1,23 @@
 //! The index of a column of a part, built.
 
-ghost use Rattle.std.specs.Prelude.{◌≡◌, ◌≢◌, ◌<◌, ◌≤◌, ℕ, ℤ, List, Ok, Some, IfErr, IfSome, IsErrOf, IsSome, OnOk, length, map, slice_get};
+ghost use Rattle.std.specs.Prelude.{◌≡◌, ◌≢◌, ◌<◌, ◌≤◌, ℕ, ℤ, Bool, List, Ok, Some, IfErr, IsErrOf, IsSome, length, slice_get};
 ghost use Rattle.fb_outside.specs.Causes.{HasCause};
-ghost use Rattle.fb_outside.specs.Files.{ChangesOnly, Files, PutLeaves, Puts, SameFiles};
+ghost use Rattle.fb_outside.specs.Files.{ChangesOnly, Files, SameFiles};
 ghost use Rattle.fb_outside.specs.Names.{IsPath};
 ghost use Rattle.fb_outside.specs.Reads.{AddsOnly};
-ghost use Rattle.fb_types.specs.declared.cells.Cell.{Cell};
 ghost use Rattle.fb_types.specs.Types.{width_of};
 ghost use Rattle.index_spec.specs.Language.{IsGiven};
 ghost use Rattle.part_meta.specs.FileNames.{index_name};
 ghost use Rattle.part_meta.specs.PartText.{most_rows};
-ghost use Rattle.world.specs.PartFiles.{is_present};
-ghost use Rattle.dataset.specs.InWorld.{HasNumbers, stored_numbers};
-ghost use Rattle.index_build.specs.Build.{IsColumnLook, IsShort, StopsColumn, StopsIn, fault_of_part};
-ghost use Rattle.index_build.specs.Index.{HasNumbers as ReadsNumbers, index_of};
+ghost use Rattle.world.specs.Effects.{Builds, after_one};
+ghost use Rattle.world.specs.IndexFiles.{index_of};
+ghost use Rattle.world.specs.PartFiles.{part_data};
+ghost use Rattle.world.specs.Stands.{StandsFor};
+ghost use Rattle.world.specs.World.{Partition, World};
+ghost use Rattle.dataset.specs.InWorld.{IsColumnOf};
+ghost use Rattle.index_build.specs.Build.{AnswersOver, HasRows, IsColumnLook, IsShort, LeavesIndex, StopsColumn, StopsIn, bin_count, fault_of_part};
+ghost use Rattle.index_build.specs.Built.{StandsAfter};
+ghost use Rattle.index_build.specs.Index.{HasNumbers};
 
 use crate::fault::BuildFault;
 use crate::gathering::column_bins;
@@ -49,11 +53,21 @@ pub fn build<S: Store, L: Ledger>(
     requires given { IsGiven spec.now }
     ensures cause { HasCause (S.faults store.old) (S.faults store.new) (IsErrOf result BuildFault.Store) }
 
-    // Where the files of the column have some cells, the index file is that of these by the specification.
-    ensures built { (m : Files) (cells : List Cell) → S.files store.old ≡ Some m → length cells ≡ part.now.rows
-        → HasNumbers m dataset.now.dir part.now.number column.now cells
-        → OnOk result (Puts (S.files store.old) (S.files store.new) (index_name dataset.now.dir part.now.number column.now.name)
-        (index_of spec.now (map is_present cells) (stored_numbers column.now.ty cells))) }
+    // Where the files of the column have these rows, the index file is that of these by the specification, whatever was there.
+    ensures leaves { (m : Files) (mask : List Bool) (numbers : List ℤ) → S.files store.old ≡ Some m
+        → HasRows m dataset.now.dir part.now column.now mask numbers
+        → LeavesIndex spec.now.encoding (bin_count spec.now mask numbers)
+        (index_name dataset.now.dir part.now.number column.now.name) (index_of spec.now mask numbers)
+        result (S.files store.old) (S.files store.new) }
+    ensures answer { (m : Files) (mask : List Bool) (numbers : List ℤ) → S.files store.old ≡ Some m
+        → HasRows m dataset.now.dir part.now column.now mask numbers
+        → AnswersOver spec.now.encoding (bin_count spec.now mask numbers) result }
+
+    // Where they stand for a world with that column, they stand for the world after the build, or for that before if it stopped.
+    ensures stands { (world : World) (p : Partition) (col : ℕ) → StandsFor (S.files store.old) world
+        → IsColumnOf world dataset.now.dir p col column.now → part.now ≡ part_data dataset.now.schema p
+        → StandsAfter result (S.files store.new) world
+        (after_one world (Builds dataset.now.dir p.number col spec.now)) }
 
     // Over every store only that file changes, and none where the index isn't built.
     ensures kept { ChangesOnly (index_name dataset.now.dir part.now.number column.now.name) (S.files store.old) (S.files store.new) }
@@ -110,8 +124,11 @@ fn build_column<S: Store, L: Ledger>(
     requires mask { length column.now.mask ≡ column.now.rows }
     requires few { column.now.rows ≤ most_rows }
     ensures cause { HasCause (S.faults store.old) (S.faults store.new) (IsErrOf result BuildFault.Store) }
-    ensures built { (numbers : List ℤ) → ReadsNumbers (S.files store.old) column.now numbers
-        → OnOk result (Puts (S.files store.old) (S.files store.new) name.now (index_of spec.now column.now.mask numbers)) }
+    ensures leaves { (numbers : List ℤ) → HasNumbers (S.files store.old) column.now numbers
+        → LeavesIndex spec.now.encoding (bin_count spec.now column.now.mask numbers) name.now
+        (index_of spec.now column.now.mask numbers) result (S.files store.old) (S.files store.new) }
+    ensures answer { (numbers : List ℤ) → HasNumbers (S.files store.old) column.now numbers
+        → AnswersOver spec.now.encoding (bin_count spec.now column.now.mask numbers) result }
     ensures kept { ChangesOnly name.now (S.files store.old) (S.files store.new) }
     ensures refused { IfErr result (λ fault. fault ≢ BuildFault.Store → SameFiles (S.files store.old) (S.files store.new)) }
     ensures stop { IfErr result (StopsColumn (S.files store.old) column.now spec.now) }

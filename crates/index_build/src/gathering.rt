@@ -8,7 +8,8 @@ ghost use Rattle.fb_types.specs.Types.{width_of};
 ghost use Rattle.column_file.specs.Values.{ValueFits, width_in};
 ghost use Rattle.index_spec.specs.Language.{IsGivenBinning};
 ghost use Rattle.part_meta.specs.PartText.{most_rows};
-ghost use Rattle.index_build.specs.Index.{AreBinsOf, AreRead, IsOfOutside, keys_by};
+ghost use Rattle.index_build.specs.Index.{AreBinsOf, AreRead, IsOfOutside};
+ghost use Rattle.world.specs.IndexFiles.{keys_by};
 
 use crate::reading::{ReadFault, block_rows, read_block};
 use binning::{Bin, Gatherer, Rule, bins, make_rule};

@@ -1,15 +1,17 @@
 //! Bins written as an index.
 
-ghost use Rattle.std.specs.Prelude.{◌≡◌, ◌≢◌, ◌≤◌, ℤ, List, Option, IfErr, IfOk, IsErrOf, IsSome, OnOk, length, map};
+ghost use Rattle.std.specs.Prelude.{◌≡◌, ◌≢◌, ◌≤◌, IfErr, IfOk, IsErrOf, IsSome, OnOk, length, map};
 ghost use Rattle.fb_outside.specs.Causes.{HasCause};
-ghost use Rattle.fb_outside.specs.Files.{PutLeaves, Puts, SameFiles};
+ghost use Rattle.fb_outside.specs.Files.{SameFiles};
 ghost use Rattle.wah_words.specs.Limits.{most_bits};
 ghost use Rattle.index_spec.specs.Counts.{bitmap_count};
 ghost use Rattle.index_spec.specs.Language.{IsGiven};
 ghost use Rattle.index_file.specs.IndexFile.{index_bytes};
 ghost use Rattle.binning.specs.Encodings.{vectors};
 ghost use Rattle.binning.specs.Members.{bitmaps_of};
-ghost use Rattle.index_build.specs.Index.{AreOfColumn, Tells, edge_of};
+ghost use Rattle.index_build.specs.Build.{AnswersOver, LeavesIndex};
+ghost use Rattle.index_build.specs.Index.{AreOfColumn, Tells};
+ghost use Rattle.world.specs.IndexFiles.{edge_of};
 
 use crate::fault::BuildFault;
 use binning::{Bin, EncFault, Encoding};
@@ -22,7 +24,7 @@ use std::sync::ledger::Ledger;
 use steps::Steps;
 use wah_words::Wah;
 
-/// What an index has.
+/// How many bins and bitmaps an index has.
 #[derive(Clone, Copy, Debug, PartialEq, Eq)]
 pub struct Built {
     pub bins: u32,
@@ -80,12 +82,11 @@ pub(crate) fn write_bins<S: Store, L: Ledger>(
     requires limit { rows ≤ most_bits }
     requires bins { AreOfColumn rows bins.now }
     ensures cause { HasCause (S.faults store.old) (S.faults store.new) (IsErrOf result BuildFault.Store) }
-    ensures ok { OnOk result (Puts (S.files store.old) (S.files store.new) name.now
-        (index_bytes rows spec.now (map edge_of bins.now) (bitmaps_of spec.now.encoding rows (vectors bins.now)))) }
-    ensures store { IsErrOf result BuildFault.Store → PutLeaves name.now
-        (index_bytes rows spec.now (map edge_of bins.now) (bitmaps_of spec.now.encoding rows (vectors bins.now))) (S.files store.old) (S.files store.new) }
+    ensures leaves { LeavesIndex spec.now.encoding (length bins.now) name.now
+        (index_bytes rows spec.now (map edge_of bins.now) (bitmaps_of spec.now.encoding rows (vectors bins.now)))
+        result (S.files store.old) (S.files store.new) }
     ensures refused { IfErr result (λ fault. fault ≢ BuildFault.Store → SameFiles (S.files store.old) (S.files store.new)) }
-    ensures stop { IfErr result (Tells spec.now.encoding (length bins.now)) }
+    ensures answer { AnswersOver spec.now.encoding (length bins.now) result }
     ensures reads { S.reads store.new ≡ S.reads store.old }
 {
     let bitmaps = bitmaps_by(alloc, spec, bins, rows, steps)?;

@@ -1,6 +1,6 @@
 //! The head of an index file.
 
-ghost use Rattle.std.specs.Prelude.{◌≡◌, ◌+◌, ◌-◌, ◌*◌, None, Some, Ok, length};
+ghost use Rattle.std.specs.Prelude.{◌≡◌, ◌+◌, ◌-◌, ◌*◌, ◌^◌, ◌<◌, ◌≤◌, None, Some, Ok, length};
 ghost use Rattle.index_spec.specs.Counts.{bitmap_count};
 ghost use Rattle.index_spec.specs.Language.{spec_of};
 ghost use Rattle.index_spec.specs.Printed.{printed};
@@ -21,6 +21,8 @@ pub struct IndexHead {
     pub spec: Spec,
     pub bins: Items<Edge>,
     pub offsets: Items<u64>,
+    ghost few_bins: { length bins < 2 ^ 32 },
+    ghost few_bitmaps: { length offsets ≤ 2 ^ 32 },
     ghost given: { spec_of (printed spec) ≡ Ok spec },
     ghost ordered: { first_out_of_order bins ≡ None },
     ghost counted: { bitmap_count spec.encoding (length bins) ≡ Some (length offsets - 1) },

@@ -7,12 +7,14 @@ use Rattle.csv_load.specs.declared.fields.RecordKind.{RecordKind}
 use Rattle.csv_load.specs.declared.fields.RecordKind.TheVariants.{FieldCount, NotWhole, OutOfRange, TextLength}
 use Rattle.dataset.specs.declared.fault.DamageKind.{DamageKind}
 use Rattle.dataset.specs.declared.fault.DamageKind.TheVariants.{Missing, Text, Length, Mask}
+use Rattle.index_spec.specs.declared.spec.SpecKind.{SpecKind}
+use Rattle.index_spec.specs.declared.spec.SpecKind.TheVariants as spec
 use Rattle.where_grammar.specs.declared.clause.QueryKind.{QueryKind}
 use Rattle.where_grammar.specs.declared.clause.QueryKind.TheVariants as query
 use Rattle.statuses.specs.declared.LimitKind.{LimitKind}
-use Rattle.statuses.specs.declared.LimitKind.TheVariants.{Rows, Input, Session, Parts, Numbers}
+use Rattle.statuses.specs.declared.LimitKind.TheVariants.{Rows, Input, Session, Parts, Numbers, Bins}
 use Rattle.statuses.specs.declared.Status.{Status}
-use Rattle.statuses.specs.declared.Status.TheVariants.{Done, Usage, BadSchema, BadInput, SchemaDiffers, BadQuery, NoDataset, Damaged, Limit, ReadFault, StoreFault, SinkFault, OutOfMemory}
+use Rattle.statuses.specs.declared.Status.TheVariants.{Done, Usage, BadSchema, BadInput, SchemaDiffers, BadSpec, BadQuery, NoDataset, Damaged, Limit, ReadFault, StoreFault, SinkFault, OutOfMemory}
 
 -- the number with which the program ends
 abbrev pub code_of : Status → ℕ
@@ -21,6 +23,7 @@ code_of Usage = 1
 code_of (BadSchema column kind) = 2
 code_of (BadInput number field kind) = 3
 code_of (SchemaDiffers column) = 4
+code_of (BadSpec kind) = 5
 code_of (BadQuery kind) = 6
 code_of (NoDataset file) = 7
 code_of (Damaged file kind want have) = 8
@@ -43,6 +46,16 @@ record_word FieldCount = codes "FieldCount"
 record_word NotWhole = codes "NotWhole"
 record_word OutOfRange = codes "OutOfRange"
 record_word TextLength = codes "TextLength"
+
+unfoldable pub spec_word : SpecKind → List ℕ
+spec_word spec.TooLong = codes "TooLong"
+spec_word spec.Syntax = codes "Syntax"
+spec_word spec.Repeated = codes "Repeated"
+spec_word spec.Number = codes "Number"
+spec_word spec.Count = codes "Count"
+spec_word spec.Bounds = codes "Bounds"
+spec_word spec.Unknown = codes "Unknown"
+spec_word spec.WrongType = codes "WrongType"
 
 -- a column that isn't known, or is of the wrong type, is named
 unfoldable pub query_word : QueryKind → List ℕ
@@ -67,6 +80,7 @@ limit_word Input = codes "input"
 limit_word Session = codes "session"
 limit_word Parts = codes "parts"
 limit_word Numbers = codes "numbers"
+limit_word Bins = codes "bins"
 
 -- the line of a refusal, ended by a line feed; the other statuses print none
 unfoldable pub line_of : Status → List ℕ
@@ -76,6 +90,7 @@ line_of (BadSchema column kind) =
 line_of (BadInput number field kind) =
     codes "error 3 record " ++ (decimal number ++ (codes " field " ++ (decimal field ++ (codes " " ++ (record_word kind ++ codes "\n")))))
 line_of (SchemaDiffers column) = codes "error 4 schema differs at column " ++ (decimal column ++ codes "\n")
+line_of (BadSpec kind) = codes "error 5 spec " ++ (spec_word kind ++ codes "\n")
 line_of (BadQuery kind) = codes "error 6 query " ++ (query_word kind ++ codes "\n")
 line_of (NoDataset file) = codes "error 7 missing " ++ (file ++ codes "\n")
 line_of (Damaged file kind want have) = codes "error 8 damaged " ++ (file ++ (codes " " ++ (damage_word kind ++ codes "\n")))

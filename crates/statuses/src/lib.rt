@@ -2,14 +2,17 @@
 #![tactic(auto)]
 
 ghost use Rattle.std.specs.Prelude.{◌≡◌, ℕ, IfOk, string_bytes};
-ghost use Rattle.statuses.specs.Lines.{code_of, damage_word, limit_word, line_of, query_word, record_word, schema_word};
+ghost use Rattle.statuses.specs.Lines.{code_of, damage_word, limit_word, line_of, query_word, record_word, schema_word, spec_word};
 
+mod opening;
 mod stop;
 
 use csv_load::RecordKind;
 pub use dataset::DamageKind;
 use fb_outside::FileName;
 use fb_types::SchemaKind;
+use index_spec::SpecKind;
+pub use opening::{damaged, opened};
 use std::alloc::{AllocError, Global};
 pub use stop::{Stop, Unanswered};
 use where_grammar::QueryKind;
@@ -27,6 +30,8 @@ pub enum LimitKind {
     Parts,
     /// The number that the next part of a dataset gets.
     Numbers,
+    /// Bins of an index, or groups of them, that an encoding takes.
+    Bins,
 }
 
 /// How a command ended: done, refused (`Usage` to `Limit`, whose line is printed), or stopped by a fault of the
@@ -50,6 +55,11 @@ pub enum Status {
     /// The path has a dataset whose schema isn't the load's.
     SchemaDiffers {
         column: u32,
+    },
+    /// The text of a specification is refused, or a list of columns that are to be indexed is: one isn't in the dataset,
+    /// can't have an index, or stands twice.
+    BadSpec {
+        kind: SpecKind,
     },
     /// The query text is refused, or names a column that the dataset hasn't.
     BadQuery {
@@ -90,6 +100,7 @@ impl Status {
             Status::BadSchema { .. } => 2,
             Status::BadInput { .. } => 3,
             Status::SchemaDiffers { .. } => 4,
+            Status::BadSpec { .. } => 5,
             Status::BadQuery { .. } => 6,
             Status::NoDataset { .. } => 7,
             Status::Damaged { .. } => 8,
@@ -115,6 +126,7 @@ impl Status {
                 kind,
             } => record_line(alloc, *number, *field, *kind),
             Status::SchemaDiffers { column } => differs_line(alloc, *column),
+            Status::BadSpec { kind } => spec_line(alloc, *kind),
             Status::BadQuery { kind } => query_line(alloc, kind),
             Status::NoDataset { file } => missing_line(alloc, file),
             Status::Damaged { file, kind, .. } => damaged_line(alloc, file, *kind),
@@ -165,6 +177,14 @@ fn differs_line(alloc: Global, column: u32) -> Result<String, AllocError>
     ensures { IfOk result (λ line. string_bytes line ≡ line_of (Status.SchemaDiffers column)) }
 {
     format!(in alloc; "error 4 schema differs at column {column}\n")
+}
+
+#[tactic(auto, unfolding(crate::specs::Lines::line_of))]
+fn spec_line(alloc: Global, kind: SpecKind) -> Result<String, AllocError>
+    ensures { IfOk result (λ line. string_bytes line ≡ line_of (Status.BadSpec kind)) }
+{
+    let kind = spec_kind(kind);
+    format!(in alloc; "error 5 spec {kind}\n")
 }
 
 #[tactic(auto, unfolding(crate::specs::Lines::line_of))]
@@ -247,6 +267,22 @@ fn record_kind(kind: RecordKind) -> &'static str
     }
 }
 
+#[tactic(auto, unfolding(crate::specs::Lines::spec_word))]
+fn spec_kind(kind: SpecKind) -> &'static str
+    ensures { result.now ≡ spec_word kind }
+{
+    match kind {
+        SpecKind::TooLong => "TooLong",
+        SpecKind::Syntax => "Syntax",
+        SpecKind::Repeated => "Repeated",
+        SpecKind::Number => "Number",
+        SpecKind::Count => "Count",
+        SpecKind::Bounds => "Bounds",
+        SpecKind::Unknown => "Unknown",
+        SpecKind::WrongType => "WrongType",
+    }
+}
+
 #[tactic(auto, unfolding(crate::specs::Lines::damage_word))]
 fn damage_kind(kind: DamageKind) -> &'static str
     ensures { result.now ≡ damage_word kind }
@@ -269,6 +305,7 @@ fn limit_kind(what: LimitKind) -> &'static str
         LimitKind::Session => "session",
         LimitKind::Parts => "parts",
         LimitKind::Numbers => "numbers",
+        LimitKind::Bins => "bins",
     }
 }
 

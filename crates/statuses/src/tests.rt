@@ -39,6 +39,22 @@ fn numbers_and_lines(rt: HostRuntime) -> Result<(), Fail> {
             9,
             "error 9 limit input 1000001 over 1000000\n",
         ),
+        (
+            Status::BadSpec {
+                kind: SpecKind::Bounds,
+            },
+            5,
+            "error 5 spec Bounds\n",
+        ),
+        (
+            Status::Limit {
+                what: LimitKind::Bins,
+                number: 1025,
+                limit: 1024,
+            },
+            9,
+            "error 9 limit bins 1025 over 1024\n",
+        ),
         (Status::ReadFault, 10, ""),
         (Status::StoreFault, 11, ""),
         (Status::SinkFault, 12, ""),

@@ -73,7 +73,7 @@ rows_from v d e f unknown whole again is h k l = is ∙ rw (h, k, l) refl
 pub told_from_start : (n m : ℕ) (answer : ℕ → PlanAtom → Three) (atoms : List PlanAtom) (answers : List (List Three)) → n ≡ m → answers ≡ columns m answer atoms → drop 0 answers ≡ columns n answer atoms ++ []
 told_from_start n m answer atoms answers e told = drop_none answers (columns n answer atoms) (told ∙ ap (λ k. columns k answer atoms) (sym e))
 
-pub cost_true : (g s t u v a : ℕ) → t ≤ s + 2 * g * (16 * a) → u ≤ t + 2 * g → v ≤ u + 2 * g → v ≤ s + 2 * g * (16 * a + 2)
+pub cost_true : (g s t u v a : ℕ) → t ≤ s + 2 * g * (6 * a) → u ≤ t + 2 * g → v ≤ u + 2 * g → v ≤ s + 2 * g * (6 * a + 2)
 cost_true g s t u v a h k l =
-    let z : 2 * g * (16 * a + 2) ≡ 2 * g * (16 * a) + 4 * g = grind arith in
+    let z : 2 * g * (6 * a + 2) ≡ 2 * g * (6 * a) + 4 * g = grind arith in
     omega (arith, h, k, l, z)

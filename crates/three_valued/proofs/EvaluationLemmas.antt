@@ -110,19 +110,19 @@ no_more_parts join rows answers start parts held next rest e before =
 
 -- ---- steps
 
-pub cost_first : (g s t a b : ℕ) → t ≤ s + 2 * g * (16 * a) → t + 2 * g * (16 * b) ≤ s + 2 * g * (16 * (1 + a + b))
+pub cost_first : (g s t a b : ℕ) → t ≤ s + 2 * g * (6 * a) → t + 2 * g * (6 * b) ≤ s + 2 * g * (6 * (1 + a + b))
 cost_first g s t a b h =
-    let z : 2 * g * (16 * (1 + a + b)) ≡ 2 * g * (16 * a) + 2 * g * (16 * b) + 32 * g = grind arith in
+    let z : 2 * g * (6 * (1 + a + b)) ≡ 2 * g * (6 * a) + 2 * g * (6 * b) + 12 * g = grind arith in
     omega (arith, h, z)
 
-pub cost_next : (g s t u a b c : ℕ) → t + 2 * g * (16 * (1 + a + b)) ≤ s + 2 * g * (16 * c) → u ≤ t + 2 * g * (16 * (1 + a)) → u + 2 * g * (16 * b) ≤ s + 2 * g * (16 * c)
+pub cost_next : (g s t u a b c : ℕ) → t + 2 * g * (6 * (1 + a + b)) ≤ s + 2 * g * (6 * c) → u ≤ t + 2 * g * (6 * (1 + a)) → u + 2 * g * (6 * b) ≤ s + 2 * g * (6 * c)
 cost_next g s t u a b c h k =
-    let z : 2 * g * (16 * (1 + a + b)) ≡ 2 * g * (16 * (1 + a)) + 2 * g * (16 * b) = grind arith in
+    let z : 2 * g * (6 * (1 + a + b)) ≡ 2 * g * (6 * (1 + a)) + 2 * g * (6 * b) = grind arith in
     omega (arith, h, k, z)
 
-pub cost_joined : (g s t u a : ℕ) → t ≤ s + 2 * g * (16 * a) → u ≤ t + 12 * g → u ≤ s + 2 * g * (16 * (1 + a))
+pub cost_joined : (g s t u a : ℕ) → t ≤ s + 2 * g * (6 * a) → u ≤ t + 12 * g → u ≤ s + 2 * g * (6 * (1 + a))
 cost_joined g s t u a h k =
-    let z : 2 * g * (16 * (1 + a)) ≡ 2 * g * (16 * a) + 32 * g = grind arith in
+    let z : 2 * g * (6 * (1 + a)) ≡ 2 * g * (6 * a) + 12 * g = grind arith in
     omega (arith, h, k, z)
 
 -- ---- plans of joined parts
@@ -224,14 +224,14 @@ parts_in-cons part parts = refl
 pub more_steps : (s x : ℕ) → s ≤ s + x
 more_steps s x = omega arith
 
-pub cost_more : (g s t a : ℕ) → t ≤ s + 2 * g * (16 * a) → t ≤ s + 2 * g * (16 * (1 + a))
+pub cost_more : (g s t a : ℕ) → t ≤ s + 2 * g * (6 * a) → t ≤ s + 2 * g * (6 * (1 + a))
 cost_more g s t a h =
-    let z : 2 * g * (16 * (1 + a)) ≡ 2 * g * (16 * a) + 32 * g = grind arith in
+    let z : 2 * g * (6 * (1 + a)) ≡ 2 * g * (6 * a) + 12 * g = grind arith in
     omega (arith, h, z)
 
-pub cost_not : (g s t u a : ℕ) → t ≤ s + 2 * g * (16 * a) → u ≤ t + 2 * g → u ≤ s + 2 * g * (16 * (1 + a))
+pub cost_not : (g s t u a : ℕ) → t ≤ s + 2 * g * (6 * a) → u ≤ t + 2 * g → u ≤ s + 2 * g * (6 * (1 + a))
 cost_not g s t u a h k =
-    let z : 2 * g * (16 * (1 + a)) ≡ 2 * g * (16 * a) + 32 * g = grind arith in
+    let z : 2 * g * (6 * (1 + a)) ≡ 2 * g * (6 * a) + 12 * g = grind arith in
     omega (arith, h, k, z)
 
 pub part_there : (parts : List Plan) (part : Plan) (more : List Plan) → parts ≡ part ∷ more → length (flat_map atoms_of parts) ≡ length (atoms_of part) + length (flat_map atoms_of more)

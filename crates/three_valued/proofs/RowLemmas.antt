@@ -8,7 +8,7 @@ use Rattle.std.proofs.lemmas.List.FromFn.{length-range_with_len, length-map-rang
 use Rattle.binning.specs.declared.against_bins.Three.{Three}
 use Rattle.binning.specs.declared.against_bins.Three.TheVariants.{Yes, No, Unknown}
 use Rattle.wah_logic.specs.Logic.{each_place, or, xor, and_not}
-use Rattle.three_valued.specs.Tables.{ActsOnBounds, HasTable, decided, is_possible, is_unknown, is_yes, three_not, three_xor}
+use Rattle.three_valued.specs.Tables.{ActsOnBounds, HasTable, decided, is_possible, is_unknown, is_yes, three_not, three_xor, undecided}
 use Rattle.three_valued.specs.Rows.{AreBounds, answer_of, answers_of, each_row, possible_of, rowwise}
 use Rattle.three_valued.proofs.TableLemmas.{xor_decided, not_definite, not_possible}
 
@@ -151,6 +151,29 @@ or_answers_of d u p h e = rw e (or_answers d u h)
 pub decided_all : (n : ℕ) (b : Bool) → map decided (replicate n b) ≡ replicate n (decided b)
 decided_all zero b = refl
 decided_all (suc n) b = ap (λ l. decided b ∷ l) (decided_all n b)
+
+-- ---- Unknown on some rows, and No on the others
+
+undecided_bounds : (n : ℕ) (v : List Bool) → n ≡ length v → AreBounds (replicate n false) v
+unfolding AreBounds
+undecided_bounds zero [] h = tt
+undecided_bounds zero (b ∷ v) h = absurd (omega arith)
+undecided_bounds (suc n) [] h = absurd (omega arith)
+undecided_bounds (suc n) (b ∷ v) h = (λ e. absurd cc, undecided_bounds n v (omega arith))
+
+undecided_answers : (n : ℕ) (v : List Bool) → n ≡ length v → answers_of (replicate n false) v ≡ map undecided v
+unfolding answers_of
+undecided_answers zero [] h = refl
+undecided_answers zero (b ∷ v) h = absurd (omega arith)
+undecided_answers (suc n) [] h = absurd (omega arith)
+undecided_answers (suc n) (true ∷ v) h = ap (λ l. Unknown ∷ l) (undecided_answers n v (omega arith))
+undecided_answers (suc n) (false ∷ v) h = ap (λ l. No ∷ l) (undecided_answers n v (omega arith))
+
+pub undecided_bounds_of : (d v : List Bool) (n : ℕ) → d ≡ replicate n false → n ≡ length v → AreBounds d v
+undecided_bounds_of d v n e h = rw e (undecided_bounds n v h)
+
+pub undecided_answers_of : (d v : List Bool) (n : ℕ) → d ≡ replicate n false → n ≡ length v → answers_of d v ≡ map undecided v
+undecided_answers_of d v n e h = rw e (undecided_answers n v h)
 
 -- ---- two lists of answers
 

@@ -28,6 +28,11 @@ abbrev pub decided : Bool → Three
 decided true = Yes
 decided false = No
 
+-- the answer where it may be true, and nothing else is known
+abbrev pub undecided : Bool → Three
+undecided true = Unknown
+undecided false = No
+
 -- ---- the tables of two
 
 abbrev pub three_not : Three → Three

@@ -70,7 +70,7 @@ pub fn true_rows<L: Ledger>(
     // Whatever the conditions answer and whichever truth they have.
     ensures rows { IfOk result (λ v. (answer : ℕ → PlanAtom → Three) (truth : ℕ → PlanAtom → Bool) → exact.now ≡ columns (length whole.now) answer (atoms_of plan.now) → Decides plan.now whole.now answer truth → v ≡ each_row (length whole.now) (λ row. is_true (truth row) plan.now)) }
     ensures length { IfOk result (λ v. length v ≡ length whole.now) }
-    ensures steps { steps.new ≤ steps.old + 2 * groups_and_rest (length whole.now) * (16 * parts_of plan.now + 2) }
+    ensures steps { steps.new ≤ steps.old + 2 * groups_and_rest (length whole.now) * (6 * parts_of plan.now + 2) }
 {
     let mut next = 0;
     let again = combined(alloc, plan, whole.len(), exact, &mut next, steps)?;

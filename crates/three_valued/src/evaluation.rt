@@ -55,7 +55,7 @@ pub fn combined<'a, L: Ledger>(
 
     // Whatever the conditions answer: where these are their answers, these are the plan's.
     ensures answers { IfOk result (λ held. (answer : ℕ → PlanAtom → Three) (more : List (List Three)) → drop next.old answers.now ≡ columns rows answer (atoms_of plan.now) ++ more → held_answers held ≡ each_row rows (λ row. three (answer row) plan.now)) }
-    ensures steps { steps.new ≤ steps.old + 2 * groups_and_rest rows * (16 * parts_of plan.now) }
+    ensures steps { steps.new ≤ steps.old + 2 * groups_and_rest rows * (6 * parts_of plan.now) }
 {
     match plan {
         Plan::All => Ok(Held::Made(Answers::uniform(alloc, true, rows)?)),
@@ -117,7 +117,7 @@ fn with_part<'a, L: Ledger>(
     ensures next { OnOk result (next.new ≡ next.old + length (atoms_of part.now)) }
     ensures length { IfOk result (λ held. length (held_answers held) ≡ rows) }
     ensures answers { IfOk result (λ made. (answer : ℕ → PlanAtom → Three) (more : List (List Three)) → drop next.old answers.now ≡ columns rows answer (atoms_of part.now) ++ more → held_answers made ≡ rowwise (joins join) (held_answers held.entry) (each_row rows (λ row. three (answer row) part.now))) }
-    ensures steps { steps.new ≤ steps.old + 2 * groups_and_rest rows * (16 * (1 + parts_of part.now)) }
+    ensures steps { steps.new ≤ steps.old + 2 * groups_and_rest rows * (6 * (1 + parts_of part.now)) }
 {
     let other = combined(alloc, part, rows, answers, next, steps)?;
     Ok(Held::Made(join_two(alloc, join, held.get(), other.get(), steps)?))
@@ -140,7 +140,7 @@ fn joined<'a, L: Ledger>(
     ensures next { OnOk result (next.new ≡ next.old + length (flat_map atoms_of parts.now)) }
     ensures length { IfOk result (λ held. length (held_answers held) ≡ rows) }
     ensures answers { IfOk result (λ held. (answer : ℕ → PlanAtom → Three) (more : List (List Three)) → drop next.old answers.now ≡ columns rows answer (flat_map atoms_of parts.now) ++ more → held_answers held ≡ each_row rows (λ row. joined join (map (three (answer row)) parts.now))) }
-    ensures steps { steps.new ≤ steps.old + 2 * groups_and_rest rows * (16 * parts_in parts.now) }
+    ensures steps { steps.new ≤ steps.old + 2 * groups_and_rest rows * (6 * parts_in parts.now) }
 {
     match parts {
         [] => Ok(Held::Made(Answers::uniform(alloc, join.of_none(), rows)?)),

@@ -3,7 +3,7 @@ ghost use Rattle.std.specs.Prelude.{◌≡◌, ◌+◌, ◌*◌, ◌^◌, ◌<�
 ghost use Rattle.wah_words.specs.Limits.{most_bits};
 ghost use Rattle.wah_words.specs.Places.{places};
 ghost use Rattle.wah_logic.specs.Logic.{groups_and_rest};
-ghost use Rattle.three_valued.specs.Tables.{decided, is_possible, is_unknown, is_yes};
+ghost use Rattle.three_valued.specs.Tables.{decided, is_possible, is_unknown, is_yes, undecided};
 ghost use Rattle.three_valued.specs.Rows.{AreBounds, answers_of};
 
 use std::alloc::{AllocError, Global};
@@ -94,6 +94,14 @@ impl Answers {
     {
         let possible = wah_logic::combined::<Or, L>(alloc, &definite, unknown, steps)?;
         Ok(Answers::within(definite, possible))
+    }
+
+    /// Unknown on the rows of the vector, and No on the others. It takes no step.
+    pub fn unknown_on(alloc: Global, unknown: Wah) -> Result<Answers, AllocError>
+        ensures { IfOk result (λ a. a ≡ map undecided unknown) }
+    {
+        let definite = filled(alloc, false, unknown.len())?;
+        Ok(Answers::within(definite, unknown))
     }
 
     /// The same known answer on each row.

@@ -7,9 +7,10 @@ use std::alloc::{AllocError, Global};
 use std::marker::Model;
 use wah_words::{Builder, Wah};
 
-/// Whole groups in a builder, and the values after them as a number.
+/// A vector that grows at any place by equal values, and by the places of numbers. It is whole groups in a builder, and the
+/// values after them as a number.
 #[derive(Drop)]
-pub(crate) struct Appender {
+pub struct Appender {
     out: Builder,
     part: u32,
     count: u32,
@@ -50,7 +51,8 @@ fn joined_bits(part: u32, bits: u32, count: u32) -> u64
 }
 
 impl Appender {
-    pub(crate) fn with_room(alloc: Global, words: u32) -> Result<Appender, AllocError>
+    /// No values yet, with room for so many regular words.
+    pub fn with_room(alloc: Global, words: u32) -> Result<Appender, AllocError>
         ensures empty { IfOk result (λ a. a.values ≡ []) }
         ensures room { IfOk result (λ a. words ≤ a.spare) }
     {
@@ -63,7 +65,7 @@ impl Appender {
 
     /// Appends the low `count` places of the number.
     #[inline(always)]
-    pub(crate) fn append_bits(&mut self, bits: u32, count: u32)
+    pub fn append_bits(&mut self, bits: u32, count: u32)
         requires few { count ≤ 31 }
         requires fits { bits < 2 ^ count }
         requires limit { length self.old.values + count ≤ most_bits }
@@ -103,7 +105,7 @@ impl Appender {
 
     /// Appends equal values.
     #[inline(always)]
-    pub(crate) fn append_fill(&mut self, bit: bool, count: u32)
+    pub fn append_fill(&mut self, bit: bool, count: u32)
         requires limit { length self.old.values + count ≤ most_bits }
         requires room { min 2 ((length self.old.values + count) / 31 - length self.old.values / 31) ≤ self.old.spare }
         ensures values { self.new.values ≡ self.old.values ++ replicate count bit }
@@ -119,7 +121,7 @@ impl Appender {
 
     /// The vector of the values.
     #[inline(always)]
-    pub(crate) fn finish(self) -> Wah
+    pub fn finish(self) -> Wah
         ensures { result ≡ self.values }
     {
         let Appender {

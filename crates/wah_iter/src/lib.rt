@@ -9,6 +9,7 @@ mod packing;
 mod piece;
 mod walks;
 
+pub use appender::Appender;
 pub use counts::{count_ones, get};
 pub use laws::maximal_runs;
 pub use making::{concat, slice};

@@ -19,3 +19,4 @@ pub mod Longs
 pub mod Prints
 pub mod PrintLaws
 pub mod WhereLaws
+pub mod Within

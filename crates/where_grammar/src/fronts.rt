@@ -12,7 +12,7 @@ use fb_types::{ColName, Label};
 use std::alloc::{AllocError, Global};
 
 /// The first token, and those behind it.
-pub(crate) fn first(tokens: &[Placed]) -> Option<(&Token, &[Placed])>
+pub fn first(tokens: &[Placed]) -> Option<(&Token, &[Placed])>
     ensures { option_map (λ f. (f.0.now, bare f.1.now)) result ≡ taken (λ token. Some token) (bare tokens.now) }
 {
     match tokens {
@@ -21,7 +21,8 @@ pub(crate) fn first(tokens: &[Placed]) -> Option<(&Token, &[Placed])>
     }
 }
 
-pub(crate) fn number_at(tokens: &[Placed]) -> Option<(i128, &[Placed])>
+/// The number at the front, and what follows it.
+pub fn number_at(tokens: &[Placed]) -> Option<(i128, &[Placed])>
     ensures { seen_at result ≡ taken number_in (bare tokens.now) }
 {
     match first(tokens) {
@@ -39,10 +40,8 @@ pub(crate) fn op_at(tokens: &[Placed]) -> Option<(Op, &[Placed])>
     }
 }
 
-pub(crate) fn name_at(
-    alloc: Global,
-    tokens: &[Placed],
-) -> Result<Option<(ColName, &[Placed])>, AllocError>
+/// The column name at the front, and what follows it.
+pub fn name_at(alloc: Global, tokens: &[Placed]) -> Result<Option<(ColName, &[Placed])>, AllocError>
     ensures { IfOk result (λ found. seen_at found ≡ taken name_in (bare tokens.now)) }
 {
     match first(tokens) {
@@ -70,7 +69,7 @@ pub(crate) fn text_at(
 }
 
 /// What follows this word.
-pub(crate) fn after_word<'a>(tokens: &'a [Placed], word: &str) -> Option<&'a [Placed]>
+pub fn after_word<'a>(tokens: &'a [Placed], word: &str) -> Option<&'a [Placed]>
     ensures { option_map (λ rest. bare rest.now) result ≡ after (is_word word.now) (bare tokens.now) }
 {
     match first(tokens) {
@@ -80,7 +79,7 @@ pub(crate) fn after_word<'a>(tokens: &'a [Placed], word: &str) -> Option<&'a [Pl
 }
 
 /// What follows this sign, which is no operator.
-pub(crate) fn after_sign(tokens: &[Placed], sign: Sign) -> Option<&[Placed]>
+pub fn after_sign(tokens: &[Placed], sign: Sign) -> Option<&[Placed]>
     ensures { option_map (λ rest. bare rest.now) result ≡ after (is_sign sign) (bare tokens.now) }
 {
     match first(tokens) {

@@ -13,7 +13,8 @@ mod token;
 mod truth;
 
 pub use clause::{Atom, Clause, ClauseFault, ClauseRead, Op, QueryKind};
-pub use parsing::{after_where, clause_of, parse_where, the_grammar_is_unambiguous};
+pub use fronts::{after_sign, after_word, first, name_at, number_at};
+pub use parsing::{after_where, clause_of, long_of, parse_where, the_grammar_is_unambiguous};
 pub use printing::print_where;
 pub use token::{Placed, Sign, Token, tokens};
 pub use truth::{

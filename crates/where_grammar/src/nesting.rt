@@ -8,7 +8,7 @@ use crate::token::{Placed, Sign, Token};
 
 impl Token {
     /// Whether the token is this word.
-    pub(crate) fn is_word(&self, text: &str) -> bool
+    pub fn is_word(&self, text: &str) -> bool
         ensures { result ≡ is_word text.now self.now }
     {
         match self {
@@ -18,7 +18,7 @@ impl Token {
     }
 
     /// Whether the token is this sign, which is no operator.
-    pub(crate) fn is_sign(&self, sign: Sign) -> bool
+    pub fn is_sign(&self, sign: Sign) -> bool
         ensures { result ≡ is_sign sign self.now }
     {
         match self {

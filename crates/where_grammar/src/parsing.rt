@@ -274,7 +274,7 @@ fn is_long(token: &Token, tokens: &[Placed]) -> bool
 }
 
 /// The place of the name before the first list of more than 4,096 items.
-fn long_of(tokens: &[Placed]) -> Option<u32>
+pub fn long_of(tokens: &[Placed]) -> Option<u32>
     ensures { result ≡ long_of tokens.now }
 {
     let mut rest = tokens;

@@ -1,5 +1,7 @@
 -- A dataset that grows by a load.
-use Rattle.std.proofs.Common.{◌≡◌, ◌+◌, ◌*◌, ◌<◌, ◌≤◌, ℕ, zero, suc, List, [], ◌∷◌, ◌++◌, All, length, map, drop, sym, ap, ◌∙◌, subst, arith, length-append}
+use Rattle.std.proofs.Common.{◌≡◌, ◌+◌, ◌*◌, ◌<◌, ◌≤◌, ℕ, zero, suc, List, [], ◌∷◌, ◌++◌, All, length, map, drop, None, Some, sym, ap, ◌∙◌, subst, arith, length-append}
+use Rattle.std.specs.FinMap.{get-empty}
+use Rattle.std.specs.Ordering.{nat_cmp}
 use Rattle.std.specs.List.{AllPairs, range_with_len}
 use Rattle.std.proofs.lemmas.List.{append-nil, length-map, map-append}
 use Rattle.std.proofs.lemmas.List.Concat.{flat_map-append}
@@ -69,6 +71,7 @@ IsPartition-new schema next per_part records some few fit =
       few = omega (arith, size.1);
       fit = All-take (λ cells. RecordFits cells schema) per_part (drop (place * per_part) records)
           (All-drop (λ cells. RecordFits cells schema) (place * per_part) records fit);
+      indexed = λ col spec there. let none : None ≡ Some spec = sym (get-empty nat_cmp col) ∙ there in absurd (cc);
     })
 
 pub IsContent-extended : (content : Content) (per_part : ℕ) (records : List (List Cell)) → IsContent content → 1 ≤ per_part → per_part ≤ 4194304

@@ -16,7 +16,8 @@ use Rattle.part_meta.specs.FileNames.{IsCalled, file_name, part_name}
 use Rattle.part_meta.specs.PartText.{part_text}
 use Rattle.part_meta.proofs.FileNameLemmas.{same_file}
 use Rattle.world.specs.World.{Partition}
-use Rattle.world.specs.PartFiles.{column_cells, column_files, columns_files, files_by_type, part_data, part_files}
+use Rattle.world.specs.PartFiles.{column_files, columns_files, files_by_type, part_data, part_files}
+use Rattle.world.specs.Cells.{column_cells}
 use Rattle.world.proofs.ContentLemmas.{AllPairs-head, AllPairs-tail}
 
 -- the name of a part's file that is no index

@@ -20,14 +20,24 @@ use Rattle.part_meta.specs.FileNames.{IsCalled, catalog_name, file_name, index_n
 use Rattle.part_meta.proofs.FileNameLemmas.{catalog_is_no_csv, catalog_name-injective, file_is_no_catalog, file_is_no_csv, same_file}
 use Rattle.world.specs.World.{Content, IsContent, Partition, World, catalog_data, content_at, with_content}
 use Rattle.world.specs.PartFiles.{part_files}
-use Rattle.world.specs.Stands.{IsFree, IsUnindexed, PartRests, Rests, Stands}
+use Rattle.world.specs.Stands.{IsFree, IsInputName, IsUnindexed, PartRests, Rests, Stands}
 use Rattle.world.proofs.FileLemmas.{IsOfPart, IsWritten, part-written}
 use Rattle.world.proofs.MapLemmas.{get-insert_other, get-insert_same, same_or_apart}
+use Rattle.world.proofs.PlaceLemmas.{All-at}
+
+-- The files of a path's part of that number stayed, but maybe its indexes.
+abbrev pub KeepsBase : Files → Files → List ℕ → ℕ → Type 0
+KeepsBase old new dir number = (name : Option (List ℕ)) (kind : FileKind) → IsCalled kind name → kind ≢ file.Index
+    → file_at new (file_name dir number name kind) ≡ file_at old (file_name dir number name kind)
+
+-- All files of that part stayed.
+abbrev pub KeepsPart : Files → Files → List ℕ → ℕ → Type 0
+KeepsPart old new dir number = (name : Option (List ℕ)) (kind : FileKind) → IsCalled kind name
+    → file_at new (file_name dir number name kind) ≡ file_at old (file_name dir number name kind)
 
 -- The files of a path's parts of numbers below `next` stayed, and all its indexes.
 pub record KeepsParts (old new : Files) (dir : List ℕ) (next : ℕ) : Type 0 where
-  pub parts : (number : ℕ) (name : Option (List ℕ)) (kind : FileKind) → number < next → IsCalled kind name
-      → file_at new (file_name dir number name kind) ≡ file_at old (file_name dir number name kind)
+  pub parts : (number : ℕ) → number < next → KeepsPart old new dir number
   pub indexes : (number : ℕ) (name : List ℕ) → number < 4096 → IsColumnName name
       → file_at new (index_name dir number name) ≡ file_at old (index_name dir number name)
 
@@ -39,35 +49,40 @@ module _ (old new : Files) (dir : List ℕ) where
   unindexed-kept next number columns kept named low h k d within =
       kept.indexes number (get_or columns k d).name low (named k d within) ∙ h k d within
 
-  there-kept : (next number : ℕ) → number < next → KeepsParts old new dir next → (f : File) → IsWritten dir number f.name → IsThere old f → IsThere new f
-  there-kept next number below kept f written there =
-      ap (file_at new) written.is ∙ kept.parts number written.column written.kind below written.called
+  there-kept : (number : ℕ) → KeepsBase old new dir number → (f : File) → IsWritten dir number f.name → IsThere old f → IsThere new f
+  there-kept number kept f written there =
+      ap (file_at new) written.is ∙ kept written.column written.kind written.called written.plain
       ∙ sym (ap (file_at old) written.is) ∙ there
 
-  pub PartRests-kept : (next : ℕ) (schema : List Column) (part : Partition) → IsSchema schema → next ≤ 4096 → part.number < next
-      → KeepsParts old new dir next → PartRests old dir schema part → PartRests new dir schema part
-  PartRests-kept next schema part valid few below kept h =
+  pub listed-kept : (schema : List Column) (part : Partition) → IsSchema schema → KeepsBase old new dir part.number
+      → All (IsThere old) (part_files dir schema part) → All (IsThere new) (part_files dir schema part)
+  listed-kept schema part valid kept h k d within =
+      there-kept part.number kept (get_or (part_files dir schema part) k d) (part-written dir schema part valid k d within) (h k d within)
+
+  pub PartRests-kept : (schema : List Column) (part : Partition) → IsSchema schema → KeepsPart old new dir part.number
+      → PartRests old dir schema part → PartRests new dir schema part
+  PartRests-kept schema part valid kept h =
       record {
-        listed = λ k d within.
-            there-kept next part.number below kept (get_or (part_files dir schema part) k d) (part-written dir schema part valid k d within) (h.listed k d within);
-        unindexed = unindexed-kept next part.number schema kept valid.named (omega arith) h.unindexed;
+        listed = listed-kept schema part valid (λ name kind called plain. kept name kind called) h.listed;
+        indexes = λ col column e.
+            kept (Some column.name) file.Index (All-at (λ (c : Column). IsColumnName c.name) schema col column e valid.named) ∙ h.indexes col column e;
       }
 
-  pub parts-kept : (next : ℕ) (schema : List Column) (parts : List Partition) → IsSchema schema → next ≤ 4096
+  pub parts-kept : (next : ℕ) (schema : List Column) (parts : List Partition) → IsSchema schema
       → All (λ number. number < next) (map (λ part. part.number) parts) → KeepsParts old new dir next
       → All (PartRests old dir schema) parts → All (PartRests new dir schema) parts
-  parts-kept next schema parts valid few below kept h k d within =
+  parts-kept next schema parts valid below kept h k d within =
       let inside : k < length (map (λ (part : Partition). part.number) parts) = omega (arith, length-map parts (λ (part : Partition). part.number)) in
       let number : (get_or parts k d).number < next
       = subst (λ (n : ℕ). n < next) (get_or-map (λ (part : Partition). part.number) parts k d 0 within) (below k 0 inside) in
-      PartRests-kept next schema (get_or parts k d) valid few number kept (h k d within)
+      PartRests-kept schema (get_or parts k d) valid (kept.parts (get_or parts k d).number number) (h k d within)
 
   pub Rests-kept : (content : Content) → IsContent content → file_at new (catalog_name dir) ≡ file_at old (catalog_name dir)
       → KeepsParts old new dir content.next → Rests old dir content → Rests new dir content
   Rests-kept content valid catalog kept h =
       record {
         catalog = catalog ∙ h.catalog;
-        parts = parts-kept content.next content.schema content.parts valid.catalog.schema valid.catalog.next valid.catalog.below kept h.parts;
+        parts = parts-kept content.next content.schema content.parts valid.catalog.schema valid.catalog.below kept h.parts;
         unindexed = λ number later low. unindexed-kept content.next number content.schema kept valid.catalog.schema.named low (h.unindexed number later low);
       }
 
@@ -129,7 +144,7 @@ module _ (files : Files) (world : World) (path : List ℕ) (next : ℕ) (news : 
   pub keeps-others : (q : List ℕ) (most : ℕ) → most ≤ 4096 → (q ≡ path → most ≤ next) → KeepsParts files after q most
   keeps-others q most few older =
       record {
-        parts = λ number column kind below called.
+        parts = λ number below column kind called.
             stays (file_name q number column kind)
             (λ name h. new-no_old path next name q number column kind (omega arith) called (λ e. let w : most ≤ next = older e in omega (arith, w)) h);
         indexes = λ number column low named.
@@ -151,45 +166,14 @@ module _ (files : Files) (world : World) (path : List ℕ) (next : ℕ) (news : 
             stays name (λ other new e. new-no_csv path next other input.stem new (e ∙ input.is)) ∙ h.inputs name input;
       }
 
--- ---- a catalog is put
+-- ---- one path's dataset is another
 
--- What rests at a path once its catalog is put makes the files stand for the world with it.
-module _ (files : Files) (world : World) (path : List ℕ) (content : Content) where
-  abbrev put : Files
-  put = insert files (catalog_name path) (catalog_text (catalog_data content))
-
-  keeps-put : (q : List ℕ) (most : ℕ) → KeepsParts files put q most
-  keeps-put q most =
-      record {
-        parts = λ number column kind below called.
-            file_at-insert_other files (catalog_name path) (catalog_text (catalog_data content)) (file_name q number column kind)
-            (file_is_no_catalog q path number column kind called);
-        indexes = λ number column low named.
-            file_at-insert_other files (catalog_name path) (catalog_text (catalog_data content)) (index_name q number column)
-            (file_is_no_catalog q path number (Some column) file.Index named);
-      }
-
-  other_catalog : (q : List ℕ) → q ≢ path → file_at put (catalog_name q) ≡ file_at files (catalog_name q)
-  other_catalog q apart =
-      file_at-insert_other files (catalog_name path) (catalog_text (catalog_data content)) (catalog_name q)
-      (λ e. apart (catalog_name-injective q path e))
-
-  -- the parts' files are there, and no part to come has an index
-  pub record IsReady : Type 0 where
-    pub parts : All (PartRests files path content.schema) content.parts
-    pub unindexed : (number : ℕ) → content.next ≤ number → number < 4096
-        → All (λ column. IsUnindexed files path number column.name) content.schema
-
-  rests-here : IsContent content → IsReady → Rests put path content
-  rests-here valid ready =
-      record {
-        catalog = file_at-insert_same files (catalog_name path) (catalog_text (catalog_data content));
-        parts = parts-kept files put path content.next content.schema content.parts valid.catalog.schema valid.catalog.next valid.catalog.below
-            (keeps-put path content.next) ready.parts;
-        unindexed = λ number later low.
-            unindexed-kept files put path content.next number content.schema (keeps-put path content.next) valid.catalog.schema.named low
-            (ready.unindexed number later low);
-      }
+-- Files in which the content rests at its path, and where what stands elsewhere stayed, stand for the world with that content.
+module _ (files new : Files) (world : World) (path : List ℕ) (content : Content) where
+  pub record IsElsewhereKept : Type 0 where
+    pub catalogs : (q : List ℕ) → q ≢ path → file_at new (catalog_name q) ≡ file_at files (catalog_name q)
+    pub parts : (q : List ℕ) (most : ℕ) → q ≢ path → most ≤ 4096 → KeepsParts files new q most
+    pub inputs : (name : List ℕ) → IsInputName name → file_at new name ≡ file_at files name
 
   here : (q : List ℕ) (found : Content) → q ≡ path → content_at (with_content world path content) q ≡ Some found → found ≡ content
   here q found same there =
@@ -201,40 +185,89 @@ module _ (files : Files) (world : World) (path : List ℕ) (content : Content) w
   before : (q : List ℕ) (found : Option Content) → q ≢ path → content_at (with_content world path content) q ≡ found → content_at world q ≡ found
   before q found apart there = sym (get-insert_other world.datasets path content q apart) ∙ there
 
-  found-at : IsPath path → IsContent content → IsReady → Stands files world → (q : List ℕ) (found : Content) → (q ≡ path) ⊎ (q ≢ path)
-      → content_at (with_content world path content) q ≡ Some found → IsPath q × IsContent found × Rests put q found
-  found-at proper valid ready h q found (inl same) there =
+  found-at : IsPath path → IsContent content → Rests new path content → IsElsewhereKept → Stands files world → (q : List ℕ) (found : Content)
+      → (q ≡ path) ⊎ (q ≢ path) → content_at (with_content world path content) q ≡ Some found → IsPath q × IsContent found × Rests new q found
+  found-at proper valid rests kept h q found (inl same) there =
       let is = here q found same there in (
         subst IsPath (sym same) proper,
         subst IsContent (sym is) valid,
-        subst (λ (p : List ℕ). Rests put p found) (sym same)
-            (subst (λ (x : Content). Rests put path x) (sym is) (rests-here valid ready)),
+        subst (λ (p : List ℕ). Rests new p found) (sym same) (subst (λ (x : Content). Rests new path x) (sym is) rests),
       )
-  found-at proper valid ready h q found (inr apart) there =
-      let old = before q (Some found) apart there in (
+  found-at proper valid rests kept h q found (inr apart) there =
+      let old = before q (Some found) apart there in
+      let sound = h.valid q found old in (
         h.paths q found old,
-        h.valid q found old,
-        Rests-kept files put q found (h.valid q found old) (other_catalog q apart) (keeps-put q found.next) (h.rests q found old),
+        sound,
+        Rests-kept files new q found sound (kept.catalogs q apart) (kept.parts q found.next apart sound.catalog.next) (h.rests q found old),
       )
 
-  free-at : Stands files world → (q : List ℕ) → (q ≡ path) ⊎ (q ≢ path) → IsPath q → content_at (with_content world path content) q ≡ None
-      → IsFree put q
-  free-at h q (inl same) proper absent =
+  free-at : IsElsewhereKept → Stands files world → (q : List ℕ) → (q ≡ path) ⊎ (q ≢ path) → IsPath q
+      → content_at (with_content world path content) q ≡ None → IsFree new q
+  free-at kept h q (inl same) proper absent =
       let at : content_at (with_content world path content) path ≡ None
       = subst (λ (p : List ℕ). content_at (with_content world path content) p ≡ None) same absent in
       let is : content_at (with_content world path content) path ≡ Some content = get-insert_same world.datasets path content in
       cc
-  free-at h q (inr apart) proper absent =
-      IsFree-kept files put q (other_catalog q apart) (keeps-put q 0) (h.free q proper (before q None apart absent))
+  free-at kept h q (inr apart) proper absent =
+      IsFree-kept files new q (kept.catalogs q apart) (kept.parts q 0 apart (omega arith)) (h.free q proper (before q None apart absent))
 
-  pub Stands-put : IsPath path → IsContent content → IsReady → Stands files world → Stands put (with_content world path content)
-  Stands-put proper valid ready h =
+  pub Stands-with : IsPath path → IsContent content → Rests new path content → IsElsewhereKept → Stands files world
+      → Stands new (with_content world path content)
+  Stands-with proper valid rests kept h =
       record {
-        paths = λ q found there. (found-at proper valid ready h q found (same_or_apart q path) there).0;
-        valid = λ q found there. (found-at proper valid ready h q found (same_or_apart q path) there).1;
-        rests = λ q found there. (found-at proper valid ready h q found (same_or_apart q path) there).2;
-        free = λ q is_path absent. free-at h q (same_or_apart q path) is_path absent;
+        paths = λ q found there. (found-at proper valid rests kept h q found (same_or_apart q path) there).0;
+        valid = λ q found there. (found-at proper valid rests kept h q found (same_or_apart q path) there).1;
+        rests = λ q found there. (found-at proper valid rests kept h q found (same_or_apart q path) there).2;
+        free = λ q is_path absent. free-at kept h q (same_or_apart q path) is_path absent;
+        inputs = λ name input. kept.inputs name input ∙ h.inputs name input;
+      }
+
+-- ---- a catalog is put
+
+-- What rests at a path once its catalog is put makes the files stand for the world with it.
+module _ (files : Files) (world : World) (path : List ℕ) (content : Content) where
+  abbrev put : Files
+  put = insert files (catalog_name path) (catalog_text (catalog_data content))
+
+  keeps-put : (q : List ℕ) (most : ℕ) → KeepsParts files put q most
+  keeps-put q most =
+      record {
+        parts = λ number below column kind called.
+            file_at-insert_other files (catalog_name path) (catalog_text (catalog_data content)) (file_name q number column kind)
+            (file_is_no_catalog q path number column kind called);
+        indexes = λ number column low named.
+            file_at-insert_other files (catalog_name path) (catalog_text (catalog_data content)) (index_name q number column)
+            (file_is_no_catalog q path number (Some column) file.Index named);
+      }
+
+  -- the parts' files are there, and no part to come has an index
+  pub record IsReady : Type 0 where
+    pub parts : All (PartRests files path content.schema) content.parts
+    pub unindexed : (number : ℕ) → content.next ≤ number → number < 4096
+        → All (λ column. IsUnindexed files path number column.name) content.schema
+
+  rests-here : IsContent content → IsReady → Rests put path content
+  rests-here valid ready =
+      record {
+        catalog = file_at-insert_same files (catalog_name path) (catalog_text (catalog_data content));
+        parts = parts-kept files put path content.next content.schema content.parts valid.catalog.schema valid.catalog.below
+            (keeps-put path content.next) ready.parts;
+        unindexed = λ number later low.
+            unindexed-kept files put path content.next number content.schema (keeps-put path content.next) valid.catalog.schema.named low
+            (ready.unindexed number later low);
+      }
+
+  elsewhere : IsElsewhereKept files put world path content
+  elsewhere =
+      record {
+        catalogs = λ q apart.
+            file_at-insert_other files (catalog_name path) (catalog_text (catalog_data content)) (catalog_name q)
+            (λ e. apart (catalog_name-injective q path e));
+        parts = λ q most apart few. keeps-put q most;
         inputs = λ name input.
             file_at-insert_other files (catalog_name path) (catalog_text (catalog_data content)) name
-            (λ e. catalog_is_no_csv path input.stem (sym e ∙ input.is)) ∙ h.inputs name input;
+            (λ e. catalog_is_no_csv path input.stem (sym e ∙ input.is));
       }
+
+  pub Stands-put : IsPath path → IsContent content → IsReady → Stands files world → Stands put (with_content world path content)
+  Stands-put proper valid ready h = Stands-with files put world path content proper valid (rests-here valid ready) elsewhere h

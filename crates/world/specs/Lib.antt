@@ -1,3 +1,5 @@
+pub mod Cells
+pub mod IndexFiles
 pub mod World
 pub mod PartFiles
 pub mod Stands

@@ -1,9 +1,8 @@
 -- The files of a part: what they are called, and their bytes.
-use Rattle.std.specs.Prelude.{ℕ, ◌+◌, ℤ, pos, Bool, true, false, List, [], ◌∷◌, ◌++◌, length, map, Option, Some, None, unwrap_or, slice_index_or}
-use Rattle.std.specs.List.{filter_map}
+use Rattle.std.specs.Prelude.{ℕ, ◌+◌, List, [], ◌∷◌, ◌++◌, length, map, Option, Some, None, option_map}
+use Rattle.std.specs.FinMap.{get}
 use Rattle.fb_outside.specs.Puts.{File}
 use Rattle.fb_types.specs.declared.cells.Cell.{Cell}
-use Rattle.fb_types.specs.declared.cells.Cell.TheVariants.{Null, Whole, Word}
 use Rattle.fb_types.specs.declared.schemas.Column.{Column}
 use Rattle.fb_types.specs.declared.types.ColType.{ColType}
 use Rattle.fb_types.specs.declared.types.ColType.TheVariants.{Byte, UByte, Short, UShort, Int, UInt, Long, ULong, Category, Text}
@@ -11,49 +10,14 @@ use Rattle.wah_words.specs.Bytes.{spelling}
 use Rattle.column_file.specs.Values.{values_bytes}
 use Rattle.text_column.specs.DictionaryFile.{dictionary_bytes}
 use Rattle.text_column.specs.Texts.{starts_bytes, starts_of, text_file}
-use Rattle.text_column.specs.Words.{code_in, first_seen}
 use Rattle.part_meta.specs.declared.names.FileKind.{FileKind}
 use Rattle.part_meta.specs.declared.names.FileKind.TheVariants as file
 use Rattle.part_meta.specs.declared.part.PartMeta.{PartMeta}
 use Rattle.part_meta.specs.FileNames.{file_name, part_name}
 use Rattle.part_meta.specs.PartText.{part_text}
 use Rattle.world.specs.World.{Partition}
-
--- ---- what a cell leaves in the files of its column
-
--- a column of the records, from the top
-abbrev pub column_cells : ℕ → List (List Cell) → List Cell
-column_cells col records = map (λ cells. slice_index_or cells col Null) records
-
-abbrev pub is_present : Cell → Bool
-is_present Null = false
-is_present (Whole number) = true
-is_present (Word word) = true
-
--- a whole column's number; 0 where the cell has none
-abbrev pub number_of : Cell → ℤ
-number_of Null = pos 0
-number_of (Whole number) = number
-number_of (Word word) = pos 0
-
-abbrev pub word_of : Cell → Option (List ℕ)
-word_of Null = None
-word_of (Whole number) = None
-word_of (Word word) = Some word
-
--- a category's number: the code of its word, counted from 1; 0 where the cell has none
-abbrev pub code_of : List (List ℕ) → Cell → ℤ
-code_of words Null = pos 0
-code_of words (Whole number) = pos 0
-code_of words (Word word) = pos (unwrap_or (code_in words word) 0)
-
--- the words of a category's cells in the order in which they are first seen
-abbrev pub dictionary_of : List Cell → List (List ℕ)
-dictionary_of cells = first_seen (filter_map word_of cells)
-
--- the texts of a text column, empty where a cell has none
-abbrev pub texts_of : List Cell → List (List ℕ)
-texts_of cells = map (λ cell. unwrap_or (word_of cell) []) cells
+use Rattle.world.specs.Cells.{code_of, column_cells, dictionary_of, is_present, number_of, texts_of}
+use Rattle.world.specs.IndexFiles.{column_index}
 
 -- ---- the files of a column, in the order in which they are written
 
@@ -104,3 +68,9 @@ unfoldable pub part_files : List ℕ → List Column → Partition → List File
 part_files dir schema part =
     columns_files dir part 0 schema
     ++ record { name = part_name dir part.number; bytes = part_text (part_data schema part) } ∷ []
+
+-- ---- the indexes of a part
+
+-- the bytes of a column's index, the column having that place in the schema; None where the part has no specification of it
+abbrev pub index_in : Partition → ℕ → Column → Option (List ℕ)
+index_in part col column = option_map (λ spec. column_index spec column.ty (column_cells col part.records)) (get part.specs col)

@@ -1,5 +1,5 @@
 -- Which files stand for a world.
-use Rattle.std.specs.Prelude.{◌≡◌, ◌≤◌, ◌<◌, ℕ, List, ◌++◌, Option, Some, None}
+use Rattle.std.specs.Prelude.{◌≡◌, ◌≤◌, ◌<◌, ℕ, List, ◌++◌, Option, Some, None, slice_get}
 use Rattle.std.specs.FinMap.{get}
 use Rattle.std.specs.List.{All}
 use lib.Chars.{codes}
@@ -11,16 +11,17 @@ use Rattle.fb_types.specs.Names.{IsColumnName}
 use Rattle.part_meta.specs.CatalogText.{catalog_text}
 use Rattle.part_meta.specs.FileNames.{catalog_name, index_name}
 use Rattle.world.specs.World.{Partition, Content, World, IsContent, catalog_data, content_at}
-use Rattle.world.specs.PartFiles.{part_files}
+use Rattle.world.specs.PartFiles.{index_in, part_files}
 
 -- the column has no index in that part
 abbrev pub IsUnindexed : Files → List ℕ → ℕ → List ℕ → Type 0
 IsUnindexed files dir number name = file_at files (index_name dir number name) ≡ None
 
--- the part's files are there, and as yet no index
+-- The part's files are there, and the index of each column exactly where the part has a specification of it.
 pub record PartRests (files : Files) (dir : List ℕ) (schema : List Column) (part : Partition) : Type 0 where
   pub listed : All (IsThere files) (part_files dir schema part)
-  pub unindexed : All (λ column. IsUnindexed files dir part.number column.name) schema
+  pub indexes : (col : ℕ) (column : Column) → slice_get schema col ≡ Some column
+      → file_at files (index_name dir part.number column.name) ≡ index_in part col column
 
 -- the files under a path are the dataset's; a part that is still to come has no index
 pub record Rests (files : Files) (dir : List ℕ) (content : Content) : Type 0 where

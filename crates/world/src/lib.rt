@@ -3,8 +3,8 @@
 //! The crate has definitions (`specs/`), and laws about them: functions without a body's work, whose contracts are proved.
 #![tactic(auto)]
 
-ghost use Rattle.std.specs.Prelude.{◌≡◌, ◌≢◌, ◌≤◌, ◌+◌, ◌*◌, ℕ, pos, negsuc, List, [], ◌∷◌, ◌++◌, All, length, map, Some, None, option_map, codes};
-ghost use Rattle.std.specs.FinMap.{empty, get};
+ghost use Rattle.std.specs.Prelude.{◌≡◌, ◌≢◌, ◌≤◌, ◌+◌, ◌*◌, ℕ, pos, negsuc, List, [], ◌∷◌, ◌++◌, All, length, map, Some, None, option_map, codes, slice_get};
+ghost use Rattle.std.specs.FinMap.{empty, get, insert};
 ghost use Rattle.std.specs.List.{flat_map};
 ghost use Rattle.fb_outside.specs.Files.{Files, file_at};
 ghost use Rattle.fb_outside.specs.Names.{IsPath};
@@ -13,10 +13,14 @@ ghost use Rattle.fb_types.specs.declared.cells.Cell.{Cell};
 ghost use Rattle.fb_types.specs.declared.cells.Cell.TheVariants.{Null, Whole, Word};
 ghost use Rattle.fb_types.specs.declared.schemas.Column.{Column};
 ghost use Rattle.fb_types.specs.declared.types.ColType.TheVariants.{Category, Int, Short, Text};
-ghost use Rattle.world.specs.World.{Content, IsContent, Partition, World, content_at, no_datasets, records_of};
+ghost use Rattle.index_spec.specs.declared.spec.Spec.{Spec};
+ghost use Rattle.world.specs.Cells.{column_cells};
+ghost use Rattle.world.specs.IndexFiles.{column_index};
+ghost use Rattle.world.specs.World.{CanIndex, Content, IsContent, Partition, World, catalog_data, content_at, no_datasets, records_of};
 ghost use Rattle.world.specs.PartFiles.{column_files, part_files};
 ghost use Rattle.world.specs.Stands.{IsFree, IsInputName, Stands};
-ghost use Rattle.world.specs.Effects.{Effect, Loads, after, after_one, empty_content, extended, found_or_empty, new_parts, part_count, piece};
+ghost use Rattle.world.specs.Effects.{Builds, Effect, Loads, after, after_one, built, empty_content, extended, found_or_empty, new_parts, part_count, piece, with_index};
+ghost use Rattle.part_meta.specs.FileNames.{index_name};
 ghost use Rattle.part_meta.specs.PartText.{most_rows};
 
 /// Files among which every path is free stand for the world without datasets.
@@ -63,7 +67,7 @@ pub fn the_files_of_columns()
 pub fn the_files_of_a_part()
     ensures { part_files (codes "t")
         (record { name = codes "w"; ty = Text } ∷ record { name = codes "s"; ty = Short } ∷ [])
-        (record { number = 7; records = (Word (codes "ab") ∷ Whole (pos 5) ∷ []) ∷ [] })
+        (record { number = 7; records = (Word (codes "ab") ∷ Whole (pos 5) ∷ []) ∷ []; specs = empty })
         ≡ record { name = codes "t/p0007/w"; bytes = codes "ab" }
         ∷ record { name = codes "t/p0007/w.msk"; bytes = 1 ∷ 0 ∷ 0 ∷ 0 ∷ 0 ∷ 0 ∷ 0 ∷ 0 ∷ 1 ∷ 0 ∷ 0 ∷ 0 ∷ [] }
         ∷ record { name = codes "t/p0007/w.sp"; bytes = 0 ∷ 0 ∷ 0 ∷ 0 ∷ 0 ∷ 0 ∷ 0 ∷ 0 ∷ 2 ∷ 0 ∷ 0 ∷ 0 ∷ 0 ∷ 0 ∷ 0 ∷ 0 ∷ [] }
@@ -99,8 +103,9 @@ pub fn the_effect_of_a_load()
         ≡ Some (record {
           schema = columns;
           next = 6;
-          parts = parts ++ record { number = 3; records = a ∷ b ∷ [] } ∷ record { number = 4; records = c ∷ d ∷ [] }
-              ∷ record { number = 5; records = e ∷ [] } ∷ [];
+          parts = parts ++ record { number = 3; records = a ∷ b ∷ []; specs = empty }
+              ∷ record { number = 4; records = c ∷ d ∷ []; specs = empty }
+              ∷ record { number = 5; records = e ∷ []; specs = empty } ∷ [];
         }) }
 
     // No records, where no dataset was.
@@ -132,6 +137,62 @@ pub fn the_content_after_a_load()
         → IsContent (extended content per_part records) }
     ensures records { (content : Content) (per_part : ℕ) (records : List (List Cell)) → 1 ≤ per_part
         → records_of (extended content per_part records) ≡ records_of content ++ records }
+{}
+
+/// What a build makes of the dataset at its path: one part has one index more, or another in its place, and all else stays.
+pub fn the_effect_of_a_build()
+    ensures built { (world : World) (path : List ℕ) (number col : ℕ) (spec : Spec) (content : Content)
+        → content_at world path ≡ Some content
+        → content_at (after_one world (Builds path number col spec)) path
+        ≡ Some (built content number col spec) }
+
+    // The part of that number is indexed by that specification at that column, and as it was at every other.
+    ensures part { (content : Content) (number col place : ℕ) (spec : Spec) (part : Partition)
+        → slice_get content.parts place ≡ Some part → part.number ≡ number
+        → slice_get (built content number col spec).parts place ≡ Some (with_index col spec part) }
+    ensures indexed { (col : ℕ) (spec : Spec) (part : Partition)
+        → get (with_index col spec part).specs col ≡ Some spec }
+    ensures other_columns { (col other : ℕ) (spec : Spec) (part : Partition)
+        → other ≢ col → get (with_index col spec part).specs other ≡ get part.specs other }
+    ensures other_parts { (content : Content) (number col place : ℕ) (spec : Spec) (part : Partition)
+        → slice_get content.parts place ≡ Some part → part.number ≢ number
+        → slice_get (built content number col spec).parts place ≡ Some part }
+    ensures records { (content : Content) (number col : ℕ) (spec : Spec)
+        → records_of (built content number col spec) ≡ records_of content }
+
+    // Where no such dataset or part is, nothing changes.
+    ensures no_dataset { (world : World) (path : List ℕ) (number col : ℕ) (spec : Spec)
+        → content_at world path ≡ None → after_one world (Builds path number col spec) ≡ world }
+    ensures no_part { (world : World) (path : List ℕ) (number col : ℕ) (spec : Spec) (content : Content)
+        → content_at world path ≡ Some content → All (λ part. part.number ≢ number) content.parts
+        → after_one world (Builds path number col spec) ≡ world }
+    ensures others { (world : World) (path other : List ℕ) (number col : ℕ) (spec : Spec)
+        → other ≢ path → content_at (after_one world (Builds path number col spec)) other
+        ≡ content_at world other }
+    ensures inputs { (world : World) (path : List ℕ) (number col : ℕ) (spec : Spec)
+        → (after_one world (Builds path number col spec)).inputs ≡ world.inputs }
+{}
+
+/// A dataset of which a part's column is indexed keeps what every dataset is, where that column can have the index.
+pub fn the_content_after_a_build()
+    ensures valid { (content : Content) (place col : ℕ) (part : Partition) (spec : Spec)
+        → IsContent content → slice_get content.parts place ≡ Some part
+        → CanIndex content.schema part.records col spec
+        → IsContent (built content part.number col spec) }
+    ensures catalog { (content : Content) (number col : ℕ) (spec : Spec)
+        → catalog_data (built content number col spec) ≡ catalog_data content }
+{}
+
+/// Once the index of a column of a part is put, the files stand for the world after that build.
+pub fn the_files_after_a_build()
+    ensures { (files : Files) (world : World) (path : List ℕ) (content : Content) (place : ℕ)
+        (part : Partition) (col : ℕ) (column : Column) (spec : Spec)
+        → content_at world path ≡ Some content → slice_get content.parts place ≡ Some part
+        → slice_get content.schema col ≡ Some column → CanIndex content.schema part.records col spec
+        → Stands files world
+        → Stands (insert files (index_name path part.number column.name)
+        (column_index spec column.ty (column_cells col part.records)))
+        (after_one world (Builds path part.number col spec)) }
 {}
 
 /// The world after effects is that after the first ones and then the others.

@@ -1,6 +1,6 @@
 use Rattle.std.proofs.Common.{refl, ap}
 use Rattle.commands.specs.Command.{Unknown, command_of}
-use Rattle.commands.proofs.RunLemmas.{call_cause, call_end, call_leaves_same, call_read, call_replies, call_says, call_yields, unknown_question, usage_runs}
+use Rattle.commands.proofs.RunLemmas.{call_cause, call_end, call_leaves, call_read, call_replies, call_says, call_yields, unknown_leaves, usage_runs}
 use Rattle.commands.proofs.run_command.Goals as goal
 
 pub returns-in-None-clause-reply : goal.returns-in-None-clause-reply
@@ -21,15 +21,15 @@ returns-in-None-clause-order g c =
 
 pub returns-in-None-clause-effects : goal.returns-in-None-clause-effects
 returns-in-None-clause-effects g c =
-    call_leaves_same c.args.asked.now Unknown (ap command_of c.in-None.is) (g.I.Source.left c.args.input.now) (g.S.Store.files c.args.store.now) _ _ c.refuse.result (usage_runs (g.I.Source.left c.args.input.now) (g.S.Store.files c.args.store.now) _ _ c.refuse.result c.refuse.ensures.prints) _ unknown_question refl
+    call_leaves c.args.asked.now Unknown (ap command_of c.in-None.is) (g.I.Source.left c.args.input.now) (g.S.Store.files c.args.store.now) _ _ c.refuse.result (usage_runs (g.I.Source.left c.args.input.now) (g.S.Store.files c.args.store.now) _ _ c.refuse.result c.refuse.ensures.prints) _ (unknown_leaves _ _)
 
 pub returns-in-None-clause-read_cause : goal.returns-in-None-clause-read_cause
 returns-in-None-clause-read_cause g c =
-    call_read c.args.asked.now Unknown (ap command_of c.in-None.is) (g.I.Source.left c.args.input.now) (g.S.Store.files c.args.store.now) _ _ c.refuse.result (usage_runs (g.I.Source.left c.args.input.now) (g.S.Store.files c.args.store.now) _ _ c.refuse.result c.refuse.ensures.prints) _ unknown_question
+    call_read c.args.asked.now Unknown (ap command_of c.in-None.is) (g.I.Source.left c.args.input.now) (g.S.Store.files c.args.store.now) _ _ c.refuse.result (usage_runs (g.I.Source.left c.args.input.now) (g.S.Store.files c.args.store.now) _ _ c.refuse.result c.refuse.ensures.prints) _ refl
 
 pub returns-in-None-clause-end : goal.returns-in-None-clause-end
 returns-in-None-clause-end g c =
-    λ takes. call_end c.args.asked.now Unknown (ap command_of c.in-None.is) (g.I.Source.left c.args.input.now) (g.S.Store.files c.args.store.now) _ _ c.refuse.result (usage_runs (g.I.Source.left c.args.input.now) (g.S.Store.files c.args.store.now) _ _ c.refuse.result c.refuse.ensures.prints) unknown_question takes
+    λ takes. call_end c.args.asked.now Unknown (ap command_of c.in-None.is) (g.I.Source.left c.args.input.now) (g.S.Store.files c.args.store.now) _ _ c.refuse.result (usage_runs (g.I.Source.left c.args.input.now) (g.S.Store.files c.args.store.now) _ _ c.refuse.result c.refuse.ensures.prints) refl takes
 
 pub returns-in-Some-clause-effects : goal.returns-in-Some-clause-effects
 returns-in-Some-clause-effects g c = rw c.in-Some.is c.run_job.ensures.effects

@@ -23,6 +23,12 @@ returns-in-Ok-clause-prints g c =
     ap asked_of (sym c.in-Ok.ensures.request) ∙ session_asked c.in-Ok.asked (sym c.is_session.ensures ∙ c.if-is_session.true) in
     rw is c.session.ensures.ran
 
+pub returns-in-Ok-clause-refused : goal.returns-in-Ok-clause-refused
+returns-in-Ok-clause-refused g c =
+    let is : asked_of (asked_by c.args.words.now) ≡ OfSession =
+    ap asked_of (sym c.in-Ok.ensures.request) ∙ session_asked c.in-Ok.asked (sym c.is_session.ensures ∙ c.if-is_session.true) in
+    rw is c.session.ensures.refused
+
 -- ---- one command
 
 pub returns-in-Ok-2-clause-effects : goal.returns-in-Ok-2-clause-effects
@@ -30,6 +36,12 @@ returns-in-Ok-2-clause-effects g c =
     let is : asked_of (asked_by c.args.words.now) ≡ Of (command_of c.in-Ok.asked) =
     ap asked_of (sym c.in-Ok.ensures.request) ∙ command_asked c.in-Ok.asked (sym c.is_session.ensures ∙ c.if-is_session.false) in
     rw is c.run_command.ensures.effects
+
+pub returns-in-Ok-2-clause-refused : goal.returns-in-Ok-2-clause-refused
+returns-in-Ok-2-clause-refused g c =
+    let is : asked_of (asked_by c.args.words.now) ≡ Of (command_of c.in-Ok.asked) =
+    ap asked_of (sym c.in-Ok.ensures.request) ∙ command_asked c.in-Ok.asked (sym c.is_session.ensures ∙ c.if-is_session.false) in
+    rw is c.run_command.ensures.refused
 
 pub returns-in-Ok-2-clause-completeness : goal.returns-in-Ok-2-clause-completeness
 returns-in-Ok-2-clause-completeness g c =

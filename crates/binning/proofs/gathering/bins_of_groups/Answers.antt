@@ -8,9 +8,6 @@ use Rattle.binning.proofs.gathering.bins_of_groups.Goals as goal
 pub bins_in_order-requires-clause-within : goal.bins_in_order-requires-clause-within
 bins_in_order-requires-clause-within c = rw c.deref.ensures.value (places_within 0 c.args.groups.now c.in_ok-order.order.items c.in_ok-order.ensures.places)
 
-pub bins_in_order-requires-clause-rows : goal.bins_in_order-requires-clause-rows
-bins_in_order-requires-clause-rows c = c.deref-2.ensures.value ∙ c.in_ok-rows.ensures
-
 pub returns : goal.returns
 returns c =
     let gs = c.args.groups.now in

@@ -5,7 +5,7 @@ use Rattle.binning.proofs.gathering.put_rows.Given as goal
 
 abbrev pub invariant-loop-row : goal.invariant-loop-row
 invariant-loop-row l = record {
-  knows : Knows l.known (keys_in l.groups.items);
+  knows : Knows l.known.map (keys_in l.groups.items);
   distinct : AreDistinct (keys_in l.groups.items);
   few : length l.groups.items ≤ length l.places.items;
   rows : length l.places.items ≡ length l.initial.places.items + l.row;

@@ -23,5 +23,5 @@ returns-clause-knows c =
     let n : c.len-place.result ≡ length (keys_in items) = rw length-keys_in (omega arith) in
     let ks : keys_in c.push.new.self.items ≡ keys_in items ++ c.args.key ∷ [] = rw c.in_ok-push.ensures.items (keys_push items _ ∙ (simp to_z-of_z refl)) in
     λ k.
-    let u : get int_eq c.insert.new.self k ≡ cond (int_eq c.args.key k) (Some c.len-place.result) (get int_eq c.args.known.now k) = simp to_z-of_z at (c.in_ok-insert.ensures.updates.0 k) in
+    let u : get int_eq c.insert.new.self k ≡ cond (int_eq c.args.key k) (Some c.len-place.result) (get int_eq c.args.known.now.map k) = simp to_z-of_z at (c.in_ok-insert.ensures.updates.0 k) in
     u ∙ (rw (n, c.requires.knows k) (place_if_push k c.args.key (keys_in items) c.requires.absent)) ∙ ap (λ (xs : List ℤ). place_if k xs) (sym ks)

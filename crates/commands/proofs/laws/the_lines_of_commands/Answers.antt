@@ -3,6 +3,7 @@ use Rattle.std.specs.Fmt.{digits}
 use Rattle.statuses.specs.Lines.{line_of}
 use Rattle.ardea.specs.Load.{loaded_line}
 use Rattle.ibis.specs.Count.{hits_line}
+use Rattle.ibis_build.specs.Builds.{built_line}
 use Rattle.commands.proofs.laws.the_lines_of_commands.Goals as goal
 
 pub returns-clause-loaded : goal.returns-clause-loaded
@@ -12,6 +13,10 @@ returns-clause-loaded c = refl
 pub returns-clause-hits : goal.returns-clause-hits
 unfolding hits_line digits
 returns-clause-hits c = refl
+
+pub returns-clause-built : goal.returns-clause-built
+unfolding built_line digits
+returns-clause-built c = refl
 
 pub returns-clause-differs : goal.returns-clause-differs
 unfolding line_of digits

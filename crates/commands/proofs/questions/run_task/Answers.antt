@@ -1,7 +1,8 @@
 use Rattle.std.proofs.Common.{◌≡◌, true, false, ap}
 use Rattle.command_words.specs.declared.Task.TheVariants.{Answer}
-use Rattle.commands.specs.Command.{Counts, Lists, Unknown, command_of_task}
-use Rattle.commands.proofs.RunLemmas.{runs_at, usage_runs}
+use Rattle.commands.specs.Command.{Builds, Counts, Lists, Unknown, command_of_task}
+use Rattle.commands.proofs.RunLemmas.{count_leaves, leaves_at, list_leaves, runs_at, unknown_leaves, usage_runs}
+use Rattle.commands.proofs.BuildRunLemmas.{build_leaves, build_ran}
 use Rattle.commands.proofs.questions.run_task.Goals as goal
 
 pub returns-in-Answer-default-false-clause-runs : goal.returns-in-Answer-default-false-clause-runs
@@ -9,26 +10,52 @@ returns-in-Answer-default-false-clause-runs g c = λ left.
     let is : c.args.task.now ≡ Answer c.in-Answer-default-false.query false = cc in
     runs_at _ (Counts c.args.dir.now c.in-Answer-default-false.query) left _ _ _ _ (ap (command_of_task c.args.dir.now) is) (c.run_count.ensures.runs left)
 
+pub returns-in-Answer-default-false-clause-leaves : goal.returns-in-Answer-default-false-clause-leaves
+returns-in-Answer-default-false-clause-leaves g c =
+    let is : c.args.task.now ≡ Answer c.in-Answer-default-false.query false = cc in
+    leaves_at _ (Counts c.args.dir.now c.in-Answer-default-false.query) _ _ _ (ap (command_of_task c.args.dir.now) is)
+    (count_leaves c.args.dir.now c.in-Answer-default-false.query _ _ _ c.run_count.ensures.files)
+
 pub returns-in-List-clause-runs : goal.returns-in-List-clause-runs
 returns-in-List-clause-runs g c = λ left.
     runs_at _ (Lists c.args.dir.now) left _ _ _ _ (ap (command_of_task c.args.dir.now) c.in-List.is) (c.run_list.ensures.runs left)
+
+pub returns-in-List-clause-leaves : goal.returns-in-List-clause-leaves
+returns-in-List-clause-leaves g c =
+    leaves_at _ (Lists c.args.dir.now) _ _ _ (ap (command_of_task c.args.dir.now) c.in-List.is) (list_leaves c.args.dir.now _ _ _ c.run_list.ensures.files)
 
 pub returns-in-Answer-default-true-clause-runs : goal.returns-in-Answer-default-true-clause-runs
 returns-in-Answer-default-true-clause-runs g c = λ left.
     let is : c.args.task.now ≡ Answer c.in-Answer-default-true.query true = cc in
     runs_at _ Unknown left _ _ _ _ (ap (command_of_task c.args.dir.now) is) (usage_runs left _ _ _ c.refuse.result c.refuse.ensures.prints)
 
+pub returns-in-Answer-default-true-clause-leaves : goal.returns-in-Answer-default-true-clause-leaves
+returns-in-Answer-default-true-clause-leaves g c =
+    let is : c.args.task.now ≡ Answer c.in-Answer-default-true.query true = cc in
+    leaves_at _ Unknown _ _ _ (ap (command_of_task c.args.dir.now) is) (unknown_leaves _ _)
+
 pub returns-in-Estimate-clause-runs : goal.returns-in-Estimate-clause-runs
 returns-in-Estimate-clause-runs g c = λ left.
     runs_at _ Unknown left _ _ _ _ (ap (command_of_task c.args.dir.now) c.in-Estimate.is)
     (usage_runs left _ _ _ c.refuse-in-Estimate.result c.refuse-in-Estimate.ensures.prints)
 
+pub returns-in-Estimate-clause-leaves : goal.returns-in-Estimate-clause-leaves
+returns-in-Estimate-clause-leaves g c = leaves_at _ Unknown _ _ _ (ap (command_of_task c.args.dir.now) c.in-Estimate.is) (unknown_leaves _ _)
+
 pub returns-in-Build-clause-runs : goal.returns-in-Build-clause-runs
 returns-in-Build-clause-runs g c = λ left.
-    runs_at _ Unknown left _ _ _ _ (ap (command_of_task c.args.dir.now) c.in-Build.is)
-    (usage_runs left _ _ _ c.refuse-in-Build.result c.refuse-in-Build.ensures.prints)
+    runs_at _ (Builds c.args.dir.now c.in-Build.spec c.in-Build.columns) left _ _ _ _ (ap (command_of_task c.args.dir.now) c.in-Build.is)
+    (build_ran c.args.dir.now c.in-Build.spec c.in-Build.columns left _ _ _ _ c.run_build.result c.run_build.ensures.runs)
+
+pub returns-in-Build-clause-leaves : goal.returns-in-Build-clause-leaves
+returns-in-Build-clause-leaves g c =
+    leaves_at _ (Builds c.args.dir.now c.in-Build.spec c.in-Build.columns) _ _ _ (ap (command_of_task c.args.dir.now) c.in-Build.is)
+    (build_leaves c.args.dir.now c.in-Build.spec c.in-Build.columns _ _ _ _ c.run_build.result c.run_build.ensures.runs)
 
 pub returns-in-Check-clause-runs : goal.returns-in-Check-clause-runs
 returns-in-Check-clause-runs g c = λ left.
     runs_at _ Unknown left _ _ _ _ (ap (command_of_task c.args.dir.now) c.in-Check.is)
     (usage_runs left _ _ _ c.refuse-in-Check.result c.refuse-in-Check.ensures.prints)
+
+pub returns-in-Check-clause-leaves : goal.returns-in-Check-clause-leaves
+returns-in-Check-clause-leaves g c = leaves_at _ Unknown _ _ _ (ap (command_of_task c.args.dir.now) c.in-Check.is) (unknown_leaves _ _)

@@ -1,4 +1,4 @@
-use Rattle.std.proofs.Common.{◌≡◌, [], ◌∷◌, ◌++◌, List, ap, subst, sym, ◌∙◌}
+use Rattle.std.proofs.Common.{[], ◌∷◌, ◌++◌, List}
 use Rattle.std.specs.List.{flat_map}
 use Rattle.fb_outside.specs.Puts.{File}
 use Rattle.fb_outside.proofs.PutLemmas.{PutsInOrder-then, PutsInOrder-err, PutsFront-more}

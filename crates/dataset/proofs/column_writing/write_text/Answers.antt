@@ -1,13 +1,10 @@
-use Rattle.std.proofs.Common.{◌≡◌, [], ◌∷◌, ℕ, ℤ, List, map, ap, subst, sym, ◌∙◌}
-use Rattle.fb_outside.specs.Puts.{File, PutsAll, PutsFront, PutsInOrder}
+use Rattle.std.proofs.Common.{◌≡◌, [], ◌∷◌, ℕ, List, map, subst, ◌∙◌}
+use Rattle.fb_outside.specs.Puts.{PutsAll, PutsFront, PutsInOrder}
 use Rattle.fb_outside.proofs.PutLemmas.{PutsAll-append, PutsInOrder-then, PutsInOrder-err, PutsFront-append, PutsFront-more}
 use Rattle.wah_words.specs.Bytes.{spelling}
-use Rattle.column_file.specs.Values.{values_bytes}
 use Rattle.part_meta.specs.declared.names.FileKind.TheVariants as file
-use Rattle.text_column.specs.DictionaryFile.{dictionary_bytes}
 use Rattle.text_column.specs.Texts.{starts_bytes, starts_of, text_file}
-use Rattle.fb_types.specs.declared.types.ColType.TheVariants.{Category}
-use Rattle.world.specs.PartFiles.{code_of, dictionary_of, is_present, number_of, texts_of}
+use Rattle.world.specs.Cells.{is_present, texts_of}
 use Rattle.dataset.specs.WrittenColumns.{file_in}
 use Rattle.dataset.proofs.column_writing.write_text.Goals as goal
 

@@ -1,8 +1,7 @@
-use Rattle.std.proofs.Common.{◌≡◌, ◌<◌, ◌≤◌, None, length, arith, sym, subst, ap, ◌∙◌, rules}
+use Rattle.std.proofs.Common.{subst}
 use Rattle.fb_types.specs.declared.cells.Cell.{Cell}
 use Rattle.fb_types.specs.declared.cells.Cell.TheVariants.{Null}
 use Rattle.fb_types.specs.Cells.{CellFits}
-use Rattle.dataset.specs.WrittenColumns.{cell_of}
 use Rattle.dataset.proofs.CellLemmas.{word_fits}
 use Rattle.dataset.proofs.gathering.code_at.Goals as goal
 

@@ -1,13 +1,12 @@
-use Rattle.std.proofs.Common.{◌≡◌, ◌<◌, ◌≤◌, ◌+◌, ◌^◌, ◌++◌, ◌∷◌, [], ℕ, ℤ, pos, List, All, length, map, take, arith, sym, subst, ap, ◌∙◌, refl, to_z, of_z}
+use Rattle.std.proofs.Common.{◌≡◌, ◌<◌, ◌≤◌, ◌+◌, ◌++◌, ◌∷◌, [], ℤ, pos, List, All, length, map, take, arith, sym, subst, ap, ◌∙◌, to_z, of_z}
 use Rattle.std.proofs.lemmas.Int.{to_z-of_z}
 use Rattle.std.specs.Int.{w128}
 use Rattle.std.proofs.lemmas.List.{take_all, take_more}
-use Rattle.std.proofs.lemmas.List.Elements.{All-push, All-nil}
-use Rattle.fb_types.specs.declared.cells.Cell.{Cell}
+use Rattle.std.proofs.lemmas.List.Elements.{All-push}
 use Rattle.fb_types.specs.declared.cells.Cell.TheVariants.{Null}
 use Rattle.fb_types.specs.declared.types.ColType.TheVariants.{Category}
 use Rattle.column_file.specs.Values.{ValueFits}
-use Rattle.world.specs.PartFiles.{code_of, dictionary_of}
+use Rattle.world.specs.Cells.{code_of, dictionary_of}
 use Rattle.dataset.specs.WrittenColumns.{cell_of, with_cell}
 use Rattle.dataset.proofs.CellLemmas.{mapped_more}
 use Rattle.dataset.proofs.CodeLemmas.{AllCoded, all_coded_kept, all_coded_more, code_fits, code_is, codes_same, dictionary_more, length-with_cell}

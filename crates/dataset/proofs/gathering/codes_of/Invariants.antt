@@ -1,7 +1,7 @@
 use Rattle.std.proofs.Common.{◌≡◌, ◌≤◌, All, length, map, take}
 use Rattle.fb_types.specs.declared.types.ColType.TheVariants.{Category}
 use Rattle.column_file.specs.Values.{ValueFits}
-use Rattle.world.specs.PartFiles.{code_of, dictionary_of}
+use Rattle.world.specs.Cells.{code_of, dictionary_of}
 use Rattle.dataset.proofs.CodeLemmas.{AllCoded}
 use Rattle.dataset.proofs.gathering.codes_of.Given as goal
 

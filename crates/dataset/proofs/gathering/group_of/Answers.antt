@@ -1,9 +1,6 @@
-use Rattle.std.proofs.Common.{◌≡◌, ◌<◌, ◌≤◌, ◌+◌, ◌*◌, ◌^◌, ◌++◌, ◌∷◌, [], Bool, List, length, map, take, drop, arith, sym, subst, ap, ◌∙◌, true, false}
-use Rattle.std.specs.Int.{from_bool}
-use Rattle.wah_words.specs.Places.{places}
+use Rattle.std.proofs.Common.{◌++◌, ◌∷◌, [], Bool, List, map, take, drop, arith, sym, ap, ◌∙◌}
 use Rattle.wah_words.proofs.PlacesLemmas.{places-push}
-use Rattle.world.specs.PartFiles.{is_present}
-use Rattle.dataset.specs.WrittenColumns.{cell_of}
+use Rattle.world.specs.Cells.{is_present}
 use Rattle.dataset.proofs.CellLemmas.{group_more, bit_fits, bit_small, no_places, small_group}
 use Rattle.dataset.proofs.gathering.group_of.Goals as goal
 

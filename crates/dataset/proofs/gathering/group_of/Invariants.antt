@@ -1,6 +1,6 @@
 use Rattle.std.proofs.Common.{◌≡◌, ◌<◌, ◌^◌, map, take, drop}
 use Rattle.wah_words.specs.Places.{places}
-use Rattle.world.specs.PartFiles.{is_present}
+use Rattle.world.specs.Cells.{is_present}
 use Rattle.dataset.proofs.gathering.group_of.Given as goal
 
 abbrev pub invariant-loop-row : goal.invariant-loop-row

@@ -1,8 +1,8 @@
-use Rattle.std.proofs.Common.{◌≡◌, ◌<◌, ◌≤◌, ◌+◌, ◌*◌, ◌/◌, ◌%◌, ◌++◌, ℕ, Bool, List, length, map, take, drop, arith, sym, subst, ap, ◌∙◌}
+use Rattle.std.proofs.Common.{◌≤◌, ◌+◌, ◌*◌, ◌/◌, ◌%◌, ◌++◌, Bool, List, length, map, take, arith, sym, ap, ◌∙◌}
 use Rattle.std.proofs.lemmas.List.{take_all}
 use Rattle.wah_words.specs.Places.{places}
-use Rattle.world.specs.PartFiles.{is_present}
-use Rattle.dataset.proofs.CellLemmas.{groups_more, length-present}
+use Rattle.world.specs.Cells.{is_present}
+use Rattle.dataset.proofs.CellLemmas.{groups_more}
 use Rattle.dataset.proofs.gathering.mask_of.Goals as goal
 use Rattle.dataset.proofs.gathering.mask_of.Goals.{then-rest-ne0, else-rest-ne0}
 

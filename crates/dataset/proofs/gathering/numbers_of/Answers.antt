@@ -1,10 +1,10 @@
-use Rattle.std.proofs.Common.{◌≡◌, ◌<◌, ◌≤◌, ◌++◌, ◌∷◌, [], ℤ, List, All, IsSome, length, map, take, arith, sym, subst, ap, ◌∙◌, to_z, of_z}
+use Rattle.std.proofs.Common.{◌≡◌, ◌<◌, ◌≤◌, ◌++◌, ◌∷◌, [], ℤ, List, All, length, map, arith, sym, subst, ap, ◌∙◌, to_z, of_z}
 use Rattle.std.proofs.lemmas.Int.{to_z-of_z}
 use Rattle.std.proofs.lemmas.List.{take_all}
 use Rattle.std.specs.Int.{w128}
 use Rattle.column_file.specs.Values.{ValueFits}
 use Rattle.fb_types.specs.declared.cells.Cell.TheVariants.{Null}
-use Rattle.world.specs.PartFiles.{number_of}
+use Rattle.world.specs.Cells.{number_of}
 use Rattle.dataset.specs.WrittenColumns.{cell_of}
 use Rattle.dataset.proofs.CellLemmas.{mapped_more, numbers_fit}
 use Rattle.dataset.proofs.gathering.numbers_of.Goals as goal

@@ -1,5 +1,5 @@
 use Rattle.std.proofs.Common.{◌≡◌, map, take}
-use Rattle.world.specs.PartFiles.{number_of}
+use Rattle.world.specs.Cells.{number_of}
 use Rattle.dataset.proofs.gathering.numbers_of.Given as goal
 
 abbrev pub invariant-loop-row : goal.invariant-loop-row

@@ -1,8 +1,8 @@
-use Rattle.std.proofs.Common.{◌≡◌, ◌<◌, ◌≤◌, ◌++◌, ◌∷◌, [], ℕ, List, OnOk, Ok, length, map, take, unwrap_or, arith, sym, subst, ap, ◌∙◌}
+use Rattle.std.proofs.Common.{◌<◌, ◌≤◌, ◌++◌, ◌∷◌, [], length, take, unwrap_or, arith, sym, subst, ap, ◌∙◌}
 use Rattle.std.proofs.lemmas.List.{take_all}
 use Rattle.fb_types.specs.declared.cells.Cell.TheVariants.{Null}
 use Rattle.text_column.specs.TextFiles.{AreFilesOf}
-use Rattle.world.specs.PartFiles.{texts_of, word_of}
+use Rattle.world.specs.Cells.{texts_of, word_of}
 use Rattle.dataset.proofs.CellLemmas.{mapped_more}
 use Rattle.dataset.proofs.gathering.texts_of.Goals as goal
 

@@ -1,6 +1,6 @@
 use Rattle.std.proofs.Common.{take}
 use Rattle.text_column.specs.TextFiles.{AreFilesOf}
-use Rattle.world.specs.PartFiles.{texts_of}
+use Rattle.world.specs.Cells.{texts_of}
 use Rattle.dataset.proofs.gathering.texts_of.Given as goal
 
 abbrev pub invariant-loop-row : goal.invariant-loop-row

@@ -1,7 +1,7 @@
-use Rattle.std.proofs.Common.{◌≡◌, ◌<◌, ◌≤◌, ◌+◌, ◌*◌, ◌++◌, ◌%◌, Bool, List, length, map, take, drop, arith, sym, subst, ap, ◌∙◌}
+use Rattle.std.proofs.Common.{◌≡◌, ◌+◌, ◌*◌, ◌++◌, Bool, List, map, take, arith, sym, ap, ◌∙◌}
 use Rattle.wah_words.specs.Places.{places}
-use Rattle.world.specs.PartFiles.{is_present}
-use Rattle.dataset.proofs.CellLemmas.{groups_more, length-present}
+use Rattle.world.specs.Cells.{is_present}
+use Rattle.dataset.proofs.CellLemmas.{groups_more}
 use Rattle.dataset.proofs.gathering.whole_groups.Goals as goal
 
 pub loop-group-preserved : goal.loop-group-preserved

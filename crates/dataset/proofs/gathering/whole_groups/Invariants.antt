@@ -1,5 +1,5 @@
 use Rattle.std.proofs.Common.{◌≡◌, ◌≤◌, ◌+◌, ◌*◌, map, take}
-use Rattle.world.specs.PartFiles.{is_present}
+use Rattle.world.specs.Cells.{is_present}
 use Rattle.dataset.proofs.gathering.whole_groups.Given as goal
 
 abbrev pub invariant-loop-group : goal.invariant-loop-group

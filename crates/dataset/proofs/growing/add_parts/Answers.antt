@@ -1,4 +1,4 @@
-use Rattle.std.proofs.Common.{◌≡◌, ◌-◌, ◌+◌, ◌++◌, ◌∷◌, [], Bool, true, false, List, Result, Ok, Err, OnOk, OnErr, length, take, sym, ap, ◌∙◌, refl, arith, append-nil, append_assoc}
+use Rattle.std.proofs.Common.{◌≡◌, ◌++◌, ◌∷◌, [], true, false, List, Result, Ok, Err, OnOk, OnErr, sym, ap, ◌∙◌, append-nil, append_assoc}
 use Rattle.std.specs.Result.{is_err}
 use Rattle.part_meta.specs.declared.part.PartMeta.{PartMeta}
 use Rattle.world.specs.Effects.{new_part}

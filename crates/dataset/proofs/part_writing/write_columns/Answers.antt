@@ -1,9 +1,10 @@
-use Rattle.std.proofs.Common.{◌≡◌, [], ◌∷◌, ◌++◌, ◌<◌, ◌≤◌, ◌+◌, List, Ok, Err, get_or, length, take, refl, ap, subst, sym, ◌∙◌, arith}
+use Rattle.std.proofs.Common.{◌<◌, ◌≤◌, ◌+◌, List, get_or, length, take, refl, ap, subst, sym, ◌∙◌, arith}
 use Rattle.std.proofs.lemmas.List.{take_all}
 use Rattle.fb_types.specs.declared.schemas.Column.{Column}
-use Rattle.fb_outside.specs.Puts.{File, PutsAll, PutsFront, PutsInOrder}
+use Rattle.fb_outside.specs.Puts.{File, PutsAll, PutsFront}
 use Rattle.fb_outside.proofs.PutLemmas.{PutsAll-none, PutsAll-append, PutsInOrder-err, PutsFront-append}
-use Rattle.world.specs.PartFiles.{column_cells, column_files, columns_files}
+use Rattle.world.specs.PartFiles.{column_files, columns_files}
+use Rattle.world.specs.Cells.{column_cells}
 use Rattle.dataset.specs.WrittenColumns.{part_from}
 use Rattle.dataset.proofs.CellLemmas.{cells_fit, length-cells}
 use Rattle.dataset.proofs.FileLemmas.{columns_files-more, front_of_columns, there_is}

@@ -1,5 +1,4 @@
 use Rattle.std.proofs.Common.{◌≡◌, take}
-use Rattle.fb_outside.specs.Causes.{HasCause}
 use Rattle.fb_outside.specs.Puts.{PutsAll}
 use Rattle.world.specs.PartFiles.{columns_files}
 use Rattle.dataset.specs.WrittenColumns.{part_from}

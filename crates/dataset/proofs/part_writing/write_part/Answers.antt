@@ -1,5 +1,5 @@
-use Rattle.std.proofs.Common.{◌≡◌, [], ◌∷◌, ◌++◌, List, ap, subst, sym, ◌∙◌}
-use Rattle.fb_outside.specs.Puts.{File, PutsAll, PutsFront, PutsInOrder}
+use Rattle.std.proofs.Common.{[], ◌∷◌, List, subst, sym}
+use Rattle.fb_outside.specs.Puts.{File, PutsFront, PutsInOrder}
 use Rattle.fb_outside.proofs.PutLemmas.{PutsInOrder-then, PutsInOrder-err, PutsFront-more}
 use Rattle.part_meta.specs.FileNames.{part_name}
 use Rattle.part_meta.specs.PartText.{part_text}

@@ -1,7 +1,7 @@
-use Rattle.std.proofs.Common.{◌≡◌, [], ◌∷◌, ◌++◌, ◌<◌, ◌≤◌, ◌+◌, List, Ok, Err, length, take, refl, ap, subst, sym, ◌∙◌, arith}
+use Rattle.std.proofs.Common.{◌≡◌, ◌<◌, ◌≤◌, ◌+◌, List, length, take, refl, ap, subst, sym, ◌∙◌, arith}
 use Rattle.std.specs.List.{flat_map}
 use Rattle.std.proofs.lemmas.List.{take_all}
-use Rattle.fb_outside.specs.Puts.{File, PutsAll, PutsFront, PutsInOrder}
+use Rattle.fb_outside.specs.Puts.{File, PutsAll, PutsFront}
 use Rattle.fb_outside.proofs.PutLemmas.{PutsAll-none, PutsAll-append, PutsInOrder-err, PutsFront-all, PutsFront-append}
 use Rattle.world.specs.World.{Partition}
 use Rattle.world.specs.Effects.{new_part, new_parts, part_count}

@@ -1,4 +1,4 @@
-use Rattle.std.proofs.Common.{◌≡◌, ◌≢◌, ◌<◌, ◌≤◌, ◌+◌, ℕ, length, drop, sym, ap, subst, ◌∙◌, arith, rules}
+use Rattle.std.proofs.Common.{◌≡◌, ◌≢◌, ℕ, length, drop, sym, subst, ◌∙◌, arith}
 use Rattle.dataset.specs.Appended.{first_difference}
 use Rattle.dataset.proofs.RefusalLemmas.{from_place, from_top, same_at, differs_at, more_columns, same_within}
 use Rattle.dataset.proofs.refusing.first_difference.Goals as goal

@@ -2,7 +2,7 @@ use Rattle.std.proofs.Common.{◌≡◌, ℤ, ◌∷◌, ◌++◌, Option, lengt
 use Rattle.std.proofs.lemmas.List.{length-append, length-drop, length-take}
 use Rattle.fb_outside.specs.Files.{Files}
 use Rattle.fb_outside.proofs.ReadLemmas.{AddsOnly-same, AddsOnly-trans}
-use Rattle.world.specs.PartFiles.{number_of}
+use Rattle.world.specs.Cells.{number_of}
 use Rattle.ibis.specs.Rows.{HasValues}
 use Rattle.ibis.specs.Runs.{Rise, from_run, in_runs, rows_of_runs}
 use Rattle.ibis.proofs.RowLemmas.{comes_left, rise_begun, rise_lower, start_counts, start_few, start_rises, taken_whole}

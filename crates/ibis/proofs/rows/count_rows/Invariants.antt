@@ -2,7 +2,7 @@ use Rattle.std.proofs.Common.{◌≡◌, ◌+◌, ◌≤◌, List, length, map}
 use Rattle.fb_outside.specs.Files.{SameFiles}
 use Rattle.fb_outside.specs.Reads.{AddsOnly}
 use Rattle.fb_types.specs.declared.cells.Cell.{Cell}
-use Rattle.world.specs.PartFiles.{number_of}
+use Rattle.world.specs.Cells.{number_of}
 use Rattle.ibis.specs.Rows.{HasCells, passing}
 use Rattle.ibis.specs.Runs.{Rise, from_run, in_runs, rows_of_runs}
 use Rattle.ibis.proofs.rows.count_rows.Given as goal

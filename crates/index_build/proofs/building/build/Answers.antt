@@ -1,5 +1,67 @@
-use Rattle.index_build.proofs.BuildLemmas.{part_looks}
+use Rattle.std.proofs.Common.{◌≡◌, inl, ℕ, List, Bool, Option, subst, sym, ap, ◌∙◌}
+use Rattle.std.proofs.lemmas.Result.{err_from_is_err_and}
+use Rattle.fb_outside.specs.Files.{Files}
+use Rattle.world.specs.Stands.{StandsFor}
+use Rattle.index_build.specs.Build.{AnswersOver, bin_count}
+use Rattle.index_build.proofs.BuildLemmas.{leaves_opened, opened_mask, opened_numbers, part_looks, unopened_answers}
+use Rattle.index_build.proofs.BuiltLemmas.{stands_after}
 use Rattle.index_build.proofs.building.build.Goals as goal
+
+-- ---- the column isn't opened
+
+pub returns-in-Err-clause-leaves : goal.returns-in-Err-clause-leaves
+returns-in-Err-clause-leaves g c = λ m mask numbers told has. inl c.open_part_column.ensures.files
+
+pub returns-in-Err-clause-answer : goal.returns-in-Err-clause-answer
+returns-in-Err-clause-answer g c = λ m mask numbers told has.
+    rw c.fault_of_part.ensures
+    (unopened_answers (g.S.Store.files c.args.store.now) m c.args.dataset.now c.args.part.now c.args.column.now mask numbers c.args.spec.now.encoding
+    (bin_count c.args.spec.now mask numbers) c.in-Err.fault c.requires.rows told c.in-Err.ensures.exact has)
+
+pub returns-in-Err-clause-stands : goal.returns-in-Err-clause-stands
+returns-in-Err-clause-stands g c = λ world p col h of is.
+    inl (subst (λ (told : Option Files). StandsFor told world) (sym c.open_part_column.ensures.files) h)
+
+-- ---- its index has no name for want of memory
+
+pub returns-in_err-name-clause-leaves : goal.returns-in_err-name-clause-leaves
+returns-in_err-name-clause-leaves g c = λ m mask numbers told has.
+    let p = err_from_is_err_and c.from_residual.result c.from_residual.ensures.1 in
+    rw p.1 (inl c.open_part_column.ensures.files)
+
+pub returns-in_err-name-clause-stands : goal.returns-in_err-name-clause-stands
+returns-in_err-name-clause-stands g c = λ world p col h of is.
+    let p = err_from_is_err_and c.from_residual.result c.from_residual.ensures.1 in
+    rw p.1 (inl (subst (λ (told : Option Files). StandsFor told world) (sym c.open_part_column.ensures.files) h))
+
+-- ---- it is built
+
+leaves : goal.returns-clause-leaves
+leaves g c = λ m mask numbers told has.
+    let mid = g.S.Store.files c.open_part_column.new.store in
+    let kept = c.open_part_column.ensures.files in
+    leaves_opened c.build_column.result c.args.spec.now c.in-Ok.found.mask mask numbers c.in_ok-name.name _ _ mid _
+    (opened_mask _ m c.args.dataset.now c.args.part.now c.args.column.now mask numbers c.in-Ok.found c.requires.rows told c.in-Ok.ensures.exact has)
+    c.in_ok-name.ensures kept
+    (c.build_column.ensures.leaves numbers
+    (opened_numbers mid m c.args.dataset.now c.args.part.now c.args.column.now mask numbers c.in-Ok.found (kept ∙ told) c.in-Ok.ensures.opened has))
+
+pub returns-clause-leaves : goal.returns-clause-leaves
+returns-clause-leaves g c = leaves g c
+
+pub returns-clause-answer : goal.returns-clause-answer
+returns-clause-answer g c = λ m mask numbers told has.
+    let mid = g.S.Store.files c.open_part_column.new.store in
+    let kept = c.open_part_column.ensures.files in
+    subst (λ (bits : List Bool). AnswersOver c.args.spec.now.encoding (bin_count c.args.spec.now bits numbers) c.build_column.result)
+    (opened_mask _ m c.args.dataset.now c.args.part.now c.args.column.now mask numbers c.in-Ok.found c.requires.rows told c.in-Ok.ensures.exact has)
+    (c.build_column.ensures.answer numbers
+    (opened_numbers mid m c.args.dataset.now c.args.part.now c.args.column.now mask numbers c.in-Ok.found (kept ∙ told) c.in-Ok.ensures.opened has))
+
+pub returns-clause-stands : goal.returns-clause-stands
+returns-clause-stands g c = λ world p col h of is.
+    stands_after (g.S.Store.files c.args.store.now) (g.S.Store.files c.build_column.new.store) world c.args.dataset.now.dir p col c.args.column.now c.args.spec.now c.requires.given c.requires.width h of c.build_column.result
+    c.args.part.now c.args.dataset.now.schema is (λ m mask numbers told has. leaves g c m mask numbers told has)
 
 pub returns-clause-reads : goal.returns-clause-reads
 returns-clause-reads g c =

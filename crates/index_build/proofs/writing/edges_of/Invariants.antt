@@ -1,5 +1,5 @@
 use Rattle.std.proofs.Common.{◌≡◌, map, take}
-use Rattle.index_build.specs.Index.{edge_of}
+use Rattle.world.specs.IndexFiles.{edge_of}
 use Rattle.index_build.proofs.writing.edges_of.Given as goal
 
 abbrev pub invariant-loop-bin : goal.invariant-loop-bin

@@ -38,6 +38,6 @@ returns-clause-steps g c =
     let again : length c.definite.result.now ≡ n = ap length c.definite.ensures ∙ length-map c.get.result.now is_yes ∙ ap length c.get.ensures ∙ c.in_ok-again.ensures.length ∙ c.len.ensures.length in
     let whole : length c.definite-2.result.now ≡ n = ap length c.definite-2.ensures ∙ length-map c.args.whole.now is_yes in
     cost_true (groups_and_rest n) c.args.steps.now c.combined.new.steps c.combined-2.new.steps c.combined-3.new.steps (parts_of c.args.plan.now)
-    (subst (λ k. c.combined.new.steps ≤ c.args.steps.now + 2 * groups_and_rest k * (16 * parts_of c.args.plan.now)) c.len.ensures.length c.combined.ensures.steps)
+    (subst (λ k. c.combined.new.steps ≤ c.args.steps.now + 2 * groups_and_rest k * (6 * parts_of c.args.plan.now)) c.len.ensures.length c.combined.ensures.steps)
     (subst (λ k. c.combined-2.new.steps ≤ c.combined.new.steps + 2 * groups_and_rest k) again c.combined-2.ensures.groups)
     (subst (λ k. c.combined-3.new.steps ≤ c.combined-2.new.steps + 2 * groups_and_rest k) whole c.combined-3.ensures.groups)

@@ -27,7 +27,7 @@ combined-returns-in-Or g t c =
       next = subst (λ l. OnOk c.joined.result (c.joined.new.next ≡ c.args.next.now + length l)) (sym group.atoms) c.joined.ensures.next;
       length = c.joined.ensures.length;
       answers = group_answers c.joined.result join.Or c.as_slice.result.now c.args.plan.now c.args.rows c.args.answers.now c.args.next.now group c.joined.ensures.answers;
-      steps = subst (λ n. c.joined.new.steps ≤ c.args.steps.now + 2 * groups_and_rest c.args.rows * (16 * n)) (sym group.size) c.joined.ensures.steps;
+      steps = subst (λ n. c.joined.new.steps ≤ c.args.steps.now + 2 * groups_and_rest c.args.rows * (6 * n)) (sym group.size) c.joined.ensures.steps;
     }
 
 pub combined-joined-requires-in-Xor : goal.combined-joined-requires-in-Xor
@@ -44,7 +44,7 @@ combined-returns-in-Xor g t c =
       next = subst (λ l. OnOk c.joined-in-Xor.result (c.joined-in-Xor.new.next ≡ c.args.next.now + length l)) (sym group.atoms) c.joined-in-Xor.ensures.next;
       length = c.joined-in-Xor.ensures.length;
       answers = group_answers c.joined-in-Xor.result join.Xor c.as_slice-in-Xor.result.now c.args.plan.now c.args.rows c.args.answers.now c.args.next.now group c.joined-in-Xor.ensures.answers;
-      steps = subst (λ n. c.joined-in-Xor.new.steps ≤ c.args.steps.now + 2 * groups_and_rest c.args.rows * (16 * n)) (sym group.size) c.joined-in-Xor.ensures.steps;
+      steps = subst (λ n. c.joined-in-Xor.new.steps ≤ c.args.steps.now + 2 * groups_and_rest c.args.rows * (6 * n)) (sym group.size) c.joined-in-Xor.ensures.steps;
     }
 
 pub combined-joined-requires-in-And : goal.combined-joined-requires-in-And
@@ -61,7 +61,7 @@ combined-returns-in-And g t c =
       next = subst (λ l. OnOk c.joined-in-And.result (c.joined-in-And.new.next ≡ c.args.next.now + length l)) (sym group.atoms) c.joined-in-And.ensures.next;
       length = c.joined-in-And.ensures.length;
       answers = group_answers c.joined-in-And.result join.And c.as_slice-in-And.result.now c.args.plan.now c.args.rows c.args.answers.now c.args.next.now group c.joined-in-And.ensures.answers;
-      steps = subst (λ n. c.joined-in-And.new.steps ≤ c.args.steps.now + 2 * groups_and_rest c.args.rows * (16 * n)) (sym group.size) c.joined-in-And.ensures.steps;
+      steps = subst (λ n. c.joined-in-And.new.steps ≤ c.args.steps.now + 2 * groups_and_rest c.args.rows * (6 * n)) (sym group.size) c.joined-in-And.ensures.steps;
     }
 
 pub combined-combined-requires : goal.combined-combined-requires
@@ -81,7 +81,7 @@ combined-returns-in_ok-uniform-in-All g t c =
       next = omega (arith, none);
       length = ap length c.in_ok-uniform-in-All.ensures ∙ length-replicate c.args.rows Yes;
       answers = λ answer more told. c.in_ok-uniform-in-All.ensures ∙ all_says c.args.plan.now c.args.rows answer c.in-All.is;
-      steps = more_steps c.args.steps.now (2 * groups_and_rest c.args.rows * (16 * parts_of c.args.plan.now));
+      steps = more_steps c.args.steps.now (2 * groups_and_rest c.args.rows * (6 * parts_of c.args.plan.now));
     }
 
 pub combined-returns-in_ok-negated-in-Not : goal.combined-returns-in_ok-negated-in-Not
@@ -95,14 +95,14 @@ combined-returns-in_ok-negated-in-Not g t c =
       next = held.next ∙ ap (λ l. c.args.next.now + length l) (sym is.atoms);
       length = ap length c.in_ok-negated-in-Not.ensures.answers ∙ length-map c.get-in-Not.result.now three_not ∙ long;
       answers = λ answer more told. c.in_ok-negated-in-Not.ensures.answers ∙ turned_says part c.args.plan.now c.args.rows answer c.get-in-Not.result.now is (c.get-in-Not.ensures ∙ held.answers answer more (told ∙ ap (λ l. columns c.args.rows answer l ++ more) is.atoms));
-      steps = subst (λ n. c.negated.new.steps ≤ c.args.steps.now + 2 * groups_and_rest c.args.rows * (16 * n)) (sym is.size) (cost_not (groups_and_rest c.args.rows) c.args.steps.now c.combined.new.steps c.negated.new.steps (parts_of part) c.combined.ensures.steps turns);
+      steps = subst (λ n. c.negated.new.steps ≤ c.args.steps.now + 2 * groups_and_rest c.args.rows * (6 * n)) (sym is.size) (cost_not (groups_and_rest c.args.rows) c.args.steps.now c.combined.new.steps c.negated.new.steps (parts_of part) c.combined.ensures.steps turns);
     }
 
 pub combined-returns-in_err-held-in-Not-clause-steps : goal.combined-returns-in_err-held-in-Not-clause-steps
 combined-returns-in_err-held-in-Not-clause-steps g t c =
     let part = c.get.result.now in
     let is = turned c.args.plan.now c.in-Not.part part c.in-Not.is c.get.ensures in
-    subst (λ n. c.combined.new.steps ≤ c.args.steps.now + 2 * groups_and_rest c.args.rows * (16 * n)) (sym is.size) (cost_more (groups_and_rest c.args.rows) c.args.steps.now c.combined.new.steps (parts_of part) c.combined.ensures.steps)
+    subst (λ n. c.combined.new.steps ≤ c.args.steps.now + 2 * groups_and_rest c.args.rows * (6 * n)) (sym is.size) (cost_more (groups_and_rest c.args.rows) c.args.steps.now c.combined.new.steps (parts_of part) c.combined.ensures.steps)
 
 pub combined-returns-in_err-negated-in-Not-clause-steps : goal.combined-returns-in_err-negated-in-Not-clause-steps
 combined-returns-in_err-negated-in-Not-clause-steps g t c =
@@ -110,7 +110,7 @@ combined-returns-in_err-negated-in-Not-clause-steps g t c =
     let is = turned c.args.plan.now c.in-Not.part part c.in-Not.is c.get.ensures in
     let long : length c.get-in-Not.result.now ≡ c.args.rows = ap length c.get-in-Not.ensures ∙ c.in_ok-held-in-Not.ensures.length in
     let turns : c.negated.new.steps ≤ c.combined.new.steps + 2 * groups_and_rest c.args.rows = subst (λ n. c.negated.new.steps ≤ c.combined.new.steps + 2 * groups_and_rest n) long c.negated.ensures.steps in
-    subst (λ n. c.negated.new.steps ≤ c.args.steps.now + 2 * groups_and_rest c.args.rows * (16 * n)) (sym is.size) (cost_not (groups_and_rest c.args.rows) c.args.steps.now c.combined.new.steps c.negated.new.steps (parts_of part) c.combined.ensures.steps turns)
+    subst (λ n. c.negated.new.steps ≤ c.args.steps.now + 2 * groups_and_rest c.args.rows * (6 * n)) (sym is.size) (cost_not (groups_and_rest c.args.rows) c.args.steps.now c.combined.new.steps c.negated.new.steps (parts_of part) c.combined.ensures.steps turns)
 
 pub combined-returns-in-One : goal.combined-returns-in-One
 combined-returns-in-One g t c =
@@ -120,7 +120,7 @@ combined-returns-in-One g t c =
       next = omega (arith, one);
       length = ap length c.index-answers-next.is ∙ c.requires.long c.args.next.now c.index-answers-next.result below;
       answers = λ answer more told. one_says c.args.plan.now c.in-One.field-0 c.args.rows c.args.answers.now c.args.next.now c.index-answers-next.result answer more c.in-One.is below c.index-answers-next.is told;
-      steps = more_steps c.args.steps.now (2 * groups_and_rest c.args.rows * (16 * parts_of c.args.plan.now));
+      steps = more_steps c.args.steps.now (2 * groups_and_rest c.args.rows * (6 * parts_of c.args.plan.now));
     }
 
 pub joined-combined-requires : goal.joined-combined-requires
@@ -157,7 +157,7 @@ joined-loop-part-init g t c =
     let made = c.in_ok-held-in-len1-up in
     record {
       held = first_part c.args.join c.args.rows c.args.answers.now c.args.next.now parts (held_answers made.held) c.combined.new.next first rest whole made.ensures.next made.ensures.length made.ensures.answers;
-      cost = subst (λ n. c.combined.new.steps + 2 * G * (16 * parts_in rest) ≤ c.args.steps.now + 2 * G * (16 * n)) (sym (part_size parts first rest whole)) (cost_first G c.args.steps.now c.combined.new.steps (parts_of first) (parts_in rest) c.combined.ensures.steps);
+      cost = subst (λ n. c.combined.new.steps + 2 * G * (6 * parts_in rest) ≤ c.args.steps.now + 2 * G * (6 * n)) (sym (part_size parts first rest whole)) (cost_first G c.args.steps.now c.combined.new.steps (parts_of first) (parts_in rest) c.combined.ensures.steps);
     }
 
 pub joined-loop-part-preserved : goal.joined-loop-part-preserved
@@ -174,7 +174,7 @@ joined-loop-part-preserved g t c =
     let G = groups_and_rest c.args.rows in
     record {
       held = next_part c.args.join c.args.rows c.args.answers.now c.args.next.now parts held (held_answers made.held) c.loop-part.next c.with_part.new.next part more (subst (λ (l : List Plan). HoldsParts c.args.join c.args.rows c.args.answers.now c.args.next.now parts held c.loop-part.next l) cons before.held) made.ensures.next made.ensures.length made.ensures.answers;
-      cost = cost_next G c.args.steps.now c.loop-part.steps c.with_part.new.steps (parts_of part) (parts_in more) (parts_in parts) (subst (λ n. c.loop-part.steps + 2 * G * (16 * n) ≤ c.args.steps.now + 2 * G * (16 * parts_in parts)) (part_size (drop k rest) part more cons) before.cost) c.with_part.ensures.steps;
+      cost = cost_next G c.args.steps.now c.loop-part.steps c.with_part.new.steps (parts_of part) (parts_in more) (parts_in parts) (subst (λ n. c.loop-part.steps + 2 * G * (6 * n) ≤ c.args.steps.now + 2 * G * (6 * parts_in parts)) (part_size (drop k rest) part more cons) before.cost) c.with_part.ensures.steps;
     }
 
 pub joined-returns-after-loop-part : goal.joined-returns-after-loop-part
@@ -188,7 +188,7 @@ joined-returns-after-loop-part g t c =
       next = last.0;
       length = before.held.long;
       answers = last.1;
-      steps = within_cost c.loop-part.steps (2 * groups_and_rest c.args.rows * (16 * parts_in (drop k rest))) (c.args.steps.now + 2 * groups_and_rest c.args.rows * (16 * parts_in parts)) before.cost;
+      steps = within_cost c.loop-part.steps (2 * groups_and_rest c.args.rows * (6 * parts_in (drop k rest))) (c.args.steps.now + 2 * groups_and_rest c.args.rows * (6 * parts_in parts)) before.cost;
     }
 
 pub joined-returns-in_ok-uniform-in-empty : goal.joined-returns-in_ok-uniform-in-empty
@@ -200,7 +200,7 @@ joined-returns-in_ok-uniform-in-empty g t c =
       next = omega (arith, none);
       length = ap length same ∙ length-replicate c.args.rows (unit c.args.join);
       answers = λ answer more told. same ∙ none_says c.args.join parts c.args.rows answer c.in-empty.len_below;
-      steps = more_steps c.args.steps.now (2 * groups_and_rest c.args.rows * (16 * parts_in parts));
+      steps = more_steps c.args.steps.now (2 * groups_and_rest c.args.rows * (6 * parts_in parts));
     }
 
 pub joined-returns-in_err-held-in-len1-up-clause-steps : goal.joined-returns-in_err-held-in-len1-up-clause-steps
@@ -210,8 +210,8 @@ joined-returns-in_err-held-in-len1-up-clause-steps g t c =
     let rest = take (length parts - 1) (drop 1 parts) in
     let whole : parts ≡ first ∷ rest = first_and_rest parts first c.in-len1-up.len_at_least c.first-item.is in
     let G = groups_and_rest c.args.rows in
-    let all = subst (λ n. c.combined.new.steps + 2 * G * (16 * parts_in rest) ≤ c.args.steps.now + 2 * G * (16 * n)) (sym (part_size parts first rest whole)) (cost_first G c.args.steps.now c.combined.new.steps (parts_of first) (parts_in rest) c.combined.ensures.steps) in
-    within_cost c.combined.new.steps (2 * G * (16 * parts_in rest)) (c.args.steps.now + 2 * G * (16 * parts_in parts)) all
+    let all = subst (λ n. c.combined.new.steps + 2 * G * (6 * parts_in rest) ≤ c.args.steps.now + 2 * G * (6 * n)) (sym (part_size parts first rest whole)) (cost_first G c.args.steps.now c.combined.new.steps (parts_of first) (parts_in rest) c.combined.ensures.steps) in
+    within_cost c.combined.new.steps (2 * G * (6 * parts_in rest)) (c.args.steps.now + 2 * G * (6 * parts_in parts)) all
 
 pub joined-returns-in_err-held-in-len1-up-2-clause-steps : goal.joined-returns-in_err-held-in-len1-up-2-clause-steps
 joined-returns-in_err-held-in-len1-up-2-clause-steps g t c =
@@ -222,8 +222,8 @@ joined-returns-in_err-held-in-len1-up-2-clause-steps g t c =
     let more = drop (k + 1) rest in
     let cons = rest_cons rest k part c.loop-part-test.true c.part-item.is in
     let G = groups_and_rest c.args.rows in
-    let all = cost_next G c.args.steps.now c.loop-part.steps c.with_part.new.steps (parts_of part) (parts_in more) (parts_in parts) (subst (λ n. c.loop-part.steps + 2 * G * (16 * n) ≤ c.args.steps.now + 2 * G * (16 * parts_in parts)) (part_size (drop k rest) part more cons) c.loop-part.invariant.cost) c.with_part.ensures.steps in
-    within_cost c.with_part.new.steps (2 * G * (16 * parts_in more)) (c.args.steps.now + 2 * G * (16 * parts_in parts)) all
+    let all = cost_next G c.args.steps.now c.loop-part.steps c.with_part.new.steps (parts_of part) (parts_in more) (parts_in parts) (subst (λ n. c.loop-part.steps + 2 * G * (6 * n) ≤ c.args.steps.now + 2 * G * (6 * parts_in parts)) (part_size (drop k rest) part more cons) c.loop-part.invariant.cost) c.with_part.ensures.steps in
+    within_cost c.with_part.new.steps (2 * G * (6 * parts_in more)) (c.args.steps.now + 2 * G * (6 * parts_in parts)) all
 
 pub with_part-combined-requires : goal.with_part-combined-requires
 with_part-combined-requires g t c κs within =

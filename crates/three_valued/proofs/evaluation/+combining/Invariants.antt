@@ -8,7 +8,7 @@ use Rattle.three_valued.proofs.evaluation.+combining.Given as goal
 abbrev pub invariant-joined-loop-part : goal.invariant-joined-loop-part
 invariant-joined-loop-part g l = record {
   held : HoldsParts l.join l.rows l.answers l.fn.next l.parts (held_answers l.held) l.next (drop l.part-index l.rest);
-  cost : l.steps + 2 * groups_and_rest l.rows * (16 * parts_in (drop l.part-index l.rest)) ≤ l.fn.steps + 2 * groups_and_rest l.rows * (16 * parts_in l.parts);
+  cost : l.steps + 2 * groups_and_rest l.rows * (6 * parts_in (drop l.part-index l.rest)) ≤ l.fn.steps + 2 * groups_and_rest l.rows * (6 * parts_in l.parts);
 }
 
 abbrev pub decreases-combined : goal.decreases-combined

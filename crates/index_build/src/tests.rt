@@ -1,0 +1,127 @@
+ghost use Rattle.std.specs.Prelude.{◌≡◌, ◌<◌};
+ghost use Rattle.fb_outside.specs.Names.{IsPath};
+
+use crate::{BuildFault, Built, build};
+use dataset::open_dataset;
+use fb_outside::{FileName, MemStore, Store};
+use index_spec::{Binning, Coarse, EncodingSpec, Spec};
+use std::marker::Brand;
+use std::process::Abort;
+use std::sync::ledger::Ledger;
+use std::test::Fail;
+use steps::{Blank, Count, Steps};
+
+const FILES: &[(&str, &[u8])] = &[
+    (
+        "D/-catalog.txt",
+        b"fastbit catalog 1\nschema a:int\nnext 1\npart 0\n",
+    ),
+    (
+        "D/p0000/-part.txt",
+        b"BEGIN HEADER\nName = p0000\nNumber_of_rows = 3\nNumber_of_columns = 1\nEND HEADER\nBegin Column\nname = a\ndata_type = int\nEnd Column\n",
+    ),
+    // The values 1, null and 2.
+    ("D/p0000/a", &[1, 0, 0, 0, 0, 0, 0, 0, 2, 0, 0, 0]),
+    ("D/p0000/a.msk", &[3, 0, 0, 0, 0, 0, 0, 0, 5, 0, 0, 0]),
+];
+
+const INDEX: &str = "D/p0000/a.idx";
+
+/// The index of these values with a bin and a bitmap for each.
+const BYTES: &[u8] =
+    b"FBIX\x01\x00\x00\x00\x03\x00\x00\x00\x02\x00\x00\x00\x02\x00\x00\x00\x23\x00\x00\x00<binning none/><encoding equality/>\x01\x00\x00\x00\x00\x00\x00\x00\x00\x00\x00\x00\x00\x00\x00\x00\x01\x00\x00\x00\x00\x00\x00\x00\x00\x00\x00\x00\x00\x00\x00\x00\x02\x00\x00\x00\x00\x00\x00\x00\x00\x00\x00\x00\x00\x00\x00\x00\x02\x00\x00\x00\x00\x00\x00\x00\x00\x00\x00\x00\x00\x00\x00\x00\x93\x00\x00\x00\x00\x00\x00\x00\x9f\x00\x00\x00\x00\x00\x00\x00\xab\x00\x00\x00\x00\x00\x00\x00\x03\x00\x00\x00\x00\x00\x00\x00\x04\x00\x00\x00\x03\x00\x00\x00\x00\x00\x00\x00\x01\x00\x00\x00";
+
+fn named<R: Abort + AllocGlobal>(rt: &R, text: &str) -> FileName {
+    match FileName::from_str(rt.alloc(), text) {
+        Ok(Some(name)) => name,
+        _ => rt.panic("no name"),
+    }
+}
+
+/// The path of the dataset.
+fn path<R: Abort + AllocGlobal>(rt: &R) -> FileName
+    ensures { IsPath result }
+{
+    let name = named(rt, "D");
+    assert!(rt; name.is_path());
+    name
+}
+
+/// A store of the files.
+fn store<R: Abort + AllocGlobal>(rt: &R) -> MemStore {
+    let Ok(mut store) = MemStore::make(rt.alloc(), &[], 9) else {
+        rt.panic("out of memory")
+    };
+    for (name, bytes) in FILES {
+        assert!(rt; store.put(named(rt, name).as_str(), bytes).is_ok());
+    }
+    store
+}
+
+/// Builds an index of two levels, and then that of a bitmap for each value in its place, by a counter of its own.
+fn built<R: Abort + AllocGlobal, L: Ledger>(
+    rt: &R,
+    blank: Blank,
+    store: &mut MemStore,
+) -> Result<Built, BuildFault>
+    requires ledger { blank.name ≡ L.name }
+    requires parts { blank.parts ≡ L.parts }
+    requires some { 0 < blank.parts }
+{
+    let Ok(dataset) = open_dataset(rt.alloc(), store, &path(rt)) else {
+        rt.panic("no dataset")
+    };
+    let (Some(part), Some(column)) = (
+        dataset.parts.as_slice().first(),
+        dataset.schema.columns().first(),
+    ) else {
+        rt.panic("no column")
+    };
+    assert!(rt; dataset.dir.is_path() && column.ty.width().is_some());
+    assert!(rt; part.number < 4096 && part.rows <= 4_194_304);
+    let grouped = Spec {
+        binning: Binning::Each,
+        encoding: EncodingSpec::TwoLevel {
+            coarse: Coarse::Range,
+            ncoarse: 2,
+        },
+    };
+    let plain = Spec {
+        binning: Binning::Each,
+        encoding: EncodingSpec::Equality,
+    };
+    let mut steps = Steps::<L>::new(blank);
+    let first = build(
+        rt.alloc(),
+        store,
+        &dataset,
+        part,
+        column,
+        &grouped,
+        &mut steps,
+    )?;
+    assert!(rt; first.bins == 2 && first.bitmaps == 3);
+    build(
+        rt.alloc(),
+        store,
+        &dataset,
+        part,
+        column,
+        &plain,
+        &mut steps,
+    )
+}
+
+#[test]
+fn an_index_takes_the_place_of_another(rt: HostRuntime) -> Result<(), Fail> {
+    let mut store = store(&rt);
+    match built::<_, Brand>(&rt, rt.blank(), &mut store) {
+        Ok(built) => assert!(rt; built.bins == 2 && built.bitmaps == 2),
+        Err(_) => rt.panic("not built"),
+    }
+    match store.file(INDEX) {
+        Some(bytes) => assert!(rt; bytes == BYTES),
+        None => rt.panic("no index"),
+    }
+    Ok(())
+}

@@ -2,4 +2,5 @@ pub mod FoldLemmas
 pub mod SpanSets
 pub mod RangeLemmas
 pub mod PlanLemmas
+pub mod PlanOfLemmas
 pub mod CodeLemmas

@@ -341,7 +341,7 @@ whole_truth columns asked planned cells is fits = plan_truth columns asked plann
 
 -- ---- answers
 
-has_no_refusal : (columns : List Column) (asked : Option Clause) (p : Plan) → IsPlan columns asked p → refusal_of columns asked ≡ None
+pub has_no_refusal : (columns : List Column) (asked : Option Clause) (p : Plan) → IsPlan columns asked p → refusal_of columns asked ≡ None
 has_no_refusal columns None p is = refl
 has_no_refusal columns (Some c) p is = unrefused columns c p is
 

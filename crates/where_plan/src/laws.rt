@@ -1,6 +1,6 @@
 //! What plans mean.
 
-ghost use Rattle.std.specs.Prelude.{◌≡◌, ◌∷◌, ◌++◌, [], true, not, List, Option, map};
+ghost use Rattle.std.specs.Prelude.{◌≡◌, ◌∷◌, ◌++◌, [], true, not, List, Option, None, map};
 ghost use Rattle.std.specs.List.{list_all, list_any};
 ghost use Rattle.fb_types.specs.Cells.{RecordFits};
 ghost use Rattle.fb_types.specs.declared.cells.Cell.{Cell};
@@ -10,6 +10,8 @@ ghost use Rattle.where_grammar.specs.Holds.{odd_many};
 ghost use Rattle.where_plan.specs.declared.plan.Plan.{Plan};
 ghost use Rattle.where_plan.specs.declared.plan.PlanAtom.{PlanAtom};
 ghost use Rattle.where_plan.specs.Plans.{IsPlan, atoms_of, joined};
+ghost use Rattle.where_plan.specs.PlanOf.{plan_of};
+ghost use Rattle.where_plan.specs.Refusals.{refusal_of};
 ghost use Rattle.where_plan.specs.PlanHolds.{is_asked_for, plan_atom_holds, plan_holds};
 
 use crate::plan::Plan;
@@ -28,6 +30,14 @@ pub fn the_truth_of_plans()
 pub fn at_most_one_plan()
     ensures { (columns : List Column) (asked : Option Clause) (first second : Plan)
         → IsPlan columns asked first → IsPlan columns asked second → first ≡ second }
+{}
+
+/// A clause that isn't refused has the plan that is defined, and no other.
+pub fn the_plan_of_a_clause()
+    ensures only { (columns : List Column) (asked : Option Clause) (planned : Plan)
+        → IsPlan columns asked planned → planned ≡ plan_of columns asked }
+    ensures found { (columns : List Column) (asked : Option Clause)
+        → refusal_of columns asked ≡ None → IsPlan columns asked (plan_of columns asked) }
 {}
 
 /// A plan holds as its parts do, as a clause does.

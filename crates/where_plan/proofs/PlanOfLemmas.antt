@@ -8,11 +8,14 @@ use Rattle.std.proofs.lemmas.Int.{ints}
 use Rattle.fb_types.specs.Types.{ends_of}
 use Rattle.fb_types.specs.declared.schemas.Column.{Column}
 use Rattle.fb_types.specs.declared.types.ColType.{ColType}
+use Rattle.fb_types.specs.declared.types.ColType.TheVariants.{Byte}
 use Rattle.binning.specs.declared.span_lists.Span.{Span}
 use Rattle.binning.specs.Spans.{AreApart, has, in_span, int_le}
 use Rattle.binning.proofs.SpanLemmas.{has_number_of}
-use Rattle.binning.proofs.TestLemmas.{either, not_both}
+use Rattle.binning.proofs.TestLemmas.{either}
 use Rattle.where_grammar.specs.declared.clause.Atom.{Atom}
+use Rattle.where_grammar.specs.declared.clause.Atom.TheVariants as condition
+use Rattle.where_grammar.specs.declared.clause.Op.TheVariants as op
 use Rattle.where_grammar.specs.declared.clause.Clause.{Clause, roll-Clause, map-Clause}
 use Rattle.where_grammar.specs.declared.clause.Clause.TheVariants as clause
 use Rattle.where_grammar.specs.declared.clause.Clause.TheVariants.{rolls-Or, rolls-Xor, rolls-And, rolls-Not, rolls-One}
@@ -21,6 +24,7 @@ use Rattle.where_grammar.specs.declared.clause.Clause.TheFolds.{fold-Clause, fol
 use Rattle.where_grammar.specs.declared.clause.QueryKind.{QueryKind}
 use Rattle.where_grammar.specs.declared.clause.QueryKind.TheVariants.{WrongType}
 use Rattle.where_grammar.specs.Holds.{column_of}
+use Rattle.where_plan.specs.declared.plan.PlanAtom.TheVariants as atom
 use Rattle.where_plan.specs.declared.plan.Plan.{Plan}
 use Rattle.where_plan.specs.declared.plan.Plan.TheVariants as plan
 use Rattle.where_plan.specs.declared.sorts.Sort.{Sort}
@@ -144,10 +148,10 @@ spans_more test least more spans are = record {
   apart = front_apart (test least) least spans are.apart are.begin;
   begin = front_begins (test least) least spans are.begin;
   numbers = λ n.
-    front_has (test least) least spans n are.apart
-    ∙ (ap (λ b. (int_eq n least && test least) || b) (are.numbers n)
-    ∙ (parted (int_eq n least) (among (least +ℤ pos 1) more n) (test n) (test least) (first_passes test n least)
-    ∙ ap (λ b. b && test n) (sym (among_more least more n))));
+      front_has (test least) least spans n are.apart
+      ∙ (ap (λ b. (int_eq n least && test least) || b) (are.numbers n)
+      ∙ (parted (int_eq n least) (among (least +ℤ pos 1) more n) (test n) (test least) (first_passes test n least)
+      ∙ ap (λ b. b && test n) (sym (among_more least more n))));
 }
 
 spans_are : (test : ℤ → Bool) (least : ℤ) (count : ℕ) → AreFrom test least count (spans_from test least count)
@@ -291,3 +295,28 @@ has_plan columns (Some c) none = clause_induction (HasPlan columns) (planned_cas
 
 pub is_plan_of : (columns : List Column) (asked : Option Clause) (planned : Plan) → IsPlan columns asked planned → planned ≡ plan_of columns asked
 is_plan_of columns asked planned is = one_plan columns asked planned (plan_of columns asked) is (has_plan columns asked (has_no_refusal columns asked planned is))
+
+-- ---- a worked plan
+
+number_plan : (columns : List Column) (a : Atom) (col : ℕ) → column_named columns (column_of a) ≡ Some (col, Byte) → sort_of a ≡ Number → atom_plan columns a ≡ atom.Whole col (spans_of (span (negsuc 127) (pos 127)) (number_meets a))
+number_plan columns a col named sort = rw (named, sort) refl
+
+below_5 : (a : List ℕ) → spans_of (span (negsuc 127) (pos 127)) (number_meets (condition.Compare a op.Less (pos 5))) ≡ span (negsuc 127) (pos 4) ∷ []
+unfolding spans_of spans_from
+below_5 a = refl
+
+other_than_3 : (a : List ℕ) → spans_of (span (negsuc 127) (pos 127)) (number_meets (condition.Compare a op.Differs (pos 3))) ≡ span (negsuc 127) (pos 2) ∷ span (pos 4) (pos 127) ∷ []
+unfolding spans_of spans_from
+other_than_3 a = refl
+
+pub bytes_planned : (columns : List Column) (a : List ℕ) (col : ℕ) → column_named columns a ≡ Some (col, Byte)
+    → plan_of columns (Some (clause.And (clause.One (condition.Compare a op.Less (pos 5)) ∷ clause.One (condition.Compare a op.Differs (pos 3)) ∷ [])))
+    ≡ plan.And (plan.One (atom.Whole col (span (negsuc 127) (pos 4) ∷ [])) ∷ plan.One (atom.Whole col (span (negsuc 127) (pos 2) ∷ span (pos 4) (pos 127) ∷ [])) ∷ [])
+bytes_planned columns a col named =
+    let below = condition.Compare a op.Less (pos 5) in
+    let other = condition.Compare a op.Differs (pos 3) in
+    let first = clause_plan-one columns below ∙ ap plan.One (number_plan columns below col named refl ∙ ap (atom.Whole col) (below_5 a)) in
+    let second = clause_plan-one columns other ∙ ap plan.One (number_plan columns other col named refl ∙ ap (atom.Whole col) (other_than_3 a)) in
+    clause_plan-and columns (clause.One below ∷ clause.One other ∷ [])
+    ∙ (ap (λ p. plan.And (p ∷ clause_plan columns (clause.One other) ∷ [])) first
+    ∙ ap (λ p. plan.And (plan.One (atom.Whole col (span (negsuc 127) (pos 4) ∷ [])) ∷ p ∷ [])) second)

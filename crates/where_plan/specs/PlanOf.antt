@@ -40,8 +40,9 @@ spans_of ends test = spans_from test ends.least (int_gap ends.least (ends.greate
 
 -- ---- conditions
 
--- The plan of a condition on the column at the place, with these ends where it is one of whole numbers: a condition on
--- numbers has spans, one on texts is kept. One on numbers that isn't on such a column is refused before: any plan will do.
+-- The plan of a condition on the column at the place, which has these ends where it is one of whole numbers: a condition
+-- on numbers has its spans, one on texts is kept. Where it doesn't fit its column, it is refused before, and any plan
+-- will do.
 abbrev pub plan_at : Sort → ℕ → Option (ℤ × ℤ) → Atom → PlanAtom
 plan_at Number col (Some ends) condition = atom.Whole col (spans_of (span ends.0 ends.1) (number_meets condition))
 plan_at Number col None condition = atom.Exists col

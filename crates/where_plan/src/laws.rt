@@ -1,20 +1,26 @@
 //! What plans mean.
 
-ghost use Rattle.std.specs.Prelude.{◌≡◌, ◌∷◌, ◌++◌, [], true, not, List, Option, None, map};
+ghost use Rattle.std.specs.Prelude.{◌≡◌, ◌∷◌, ◌++◌, [], ℕ, pos, negsuc, true, not, List, Option, Some, None, map};
 ghost use Rattle.std.specs.List.{list_all, list_any};
 ghost use Rattle.fb_types.specs.Cells.{RecordFits};
 ghost use Rattle.fb_types.specs.declared.cells.Cell.{Cell};
 ghost use Rattle.fb_types.specs.declared.schemas.Column.{Column};
+ghost use Rattle.fb_types.specs.declared.types.ColType.{ColType};
+ghost use Rattle.where_grammar.specs.declared.clause.Atom.{Atom};
 ghost use Rattle.where_grammar.specs.declared.clause.Clause.{Clause};
+ghost use Rattle.where_grammar.specs.declared.clause.Op.{Op};
 ghost use Rattle.where_grammar.specs.Holds.{odd_many};
 ghost use Rattle.where_plan.specs.declared.plan.Plan.{Plan};
 ghost use Rattle.where_plan.specs.declared.plan.PlanAtom.{PlanAtom};
 ghost use Rattle.where_plan.specs.Plans.{IsPlan, atoms_of, joined};
 ghost use Rattle.where_plan.specs.PlanOf.{plan_of};
 ghost use Rattle.where_plan.specs.Refusals.{refusal_of};
+ghost use Rattle.where_plan.specs.Sorts.{column_named};
+ghost use Rattle.where_plan.specs.SpansOf.{span};
 ghost use Rattle.where_plan.specs.PlanHolds.{is_asked_for, plan_atom_holds, plan_holds};
 
 use crate::plan::Plan;
+use where_grammar::Clause;
 
 /// A plan holds of a record that fits the schema exactly where the clause does. The record may lack the last columns.
 pub fn the_truth_of_plans()
@@ -38,6 +44,13 @@ pub fn the_plan_of_a_clause()
         → IsPlan columns asked planned → planned ≡ plan_of columns asked }
     ensures found { (columns : List Column) (asked : Option Clause)
         → refusal_of columns asked ≡ None → IsPlan columns asked (plan_of columns asked) }
+
+    // `a < 5 and a != 3`, where `a` is a column of bytes.
+    ensures on_bytes { (columns : List Column) (a : List ℕ) (col : ℕ) → column_named columns a ≡ Some (col, ColType.Byte)
+        → plan_of columns (Some (Clause.And (Clause.One (Atom.Compare a Op.Less (pos 5))
+        ∷ Clause.One (Atom.Compare a Op.Differs (pos 3)) ∷ [])))
+        ≡ Plan.And (Plan.One (PlanAtom.Whole col (span (negsuc 127) (pos 4) ∷ []))
+        ∷ Plan.One (PlanAtom.Whole col (span (negsuc 127) (pos 2) ∷ span (pos 4) (pos 127) ∷ [])) ∷ []) }
 {}
 
 /// A plan holds as its parts do, as a clause does.

@@ -14,7 +14,8 @@ mod words;
 
 pub use faults::NameFault;
 pub use laws::{
-    at_most_one_plan, the_conditions_of_plans, the_plan_of_a_clause, the_truth_of_plan_parts, the_truth_of_plans,
+    at_most_one_plan, the_conditions_of_plans, the_plan_of_a_clause, the_truth_of_plan_parts,
+    the_truth_of_plans,
 };
 pub use plan::{Plan, PlanAtom};
 pub use planning::resolve;

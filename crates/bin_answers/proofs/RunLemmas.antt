@@ -1,6 +1,8 @@
 -- The runs of bins with one bin more, and in the bins' own words.
 use Rattle.std.proofs.Common.{◌≡◌, ℕ, zero, suc, ◌+◌, ◌<◌, ◌≤◌, ◌==◌, ◌&&◌, ◌||◌, Bool, true, false, cond, eqb, List, [], ◌∷◌, ◌++◌, All, length, get_or, set, refl, sym, ap, ◌∙◌, arith, subst}
 use Rattle.std.specs.List.{AllByRecursion, list_any}
+use denote.Enum.Bare.{sameb}
+use Rattle.binning.specs.contracts.against_bins.Three.{the_type}
 use Rattle.std.proofs.lemmas.Bool.Decides.{nat_tests}
 use Rattle.binning.specs.Members.{in_run}
 use Rattle.std.proofs.lemmas.Bool.{eq-eqb, eqb-true, ne_eqb}
@@ -104,6 +106,11 @@ runs_of-more answers a = runs_from-more 0 answers a ∙ (let e : 0 + length answ
 
 -- ---- the bin at the end of a list
 
+get_or-any : {X : Type 0} (xs : List X) (k : ℕ) (d e : X) → k < length xs → get_or xs k d ≡ get_or xs k e
+get_or-any [] k d e h = absurd (omega arith)
+get_or-any (x ∷ xs) zero d e h = refl
+get_or-any (x ∷ xs) (suc k) d e h = get_or-any xs k d e (omega arith)
+
 -- no run goes on: the bin is a run of its own
 pub extended_next : (rs : List BinRun) (n bin : ℕ) (a : Three) (r : BinRun) → n + 1 ≡ length rs → r ≡ get_or rs n r → (is_same a r.answer && eqb r.past bin) ≡ false
     → extended rs bin a ≡ rs ++ run a bin (bin + 1) ∷ []
@@ -123,6 +130,59 @@ extended_on (x ∷ []) zero bin a r l e h =
 extended_on (x ∷ []) (suc n) bin a r l e h = absurd (omega arith)
 extended_on (x ∷ y ∷ rs) zero bin a r l e h = absurd (omega arith)
 extended_on (x ∷ y ∷ rs) (suc n) bin a r l e h = ap (λ l. x ∷ l) (extended_on (y ∷ rs) n bin a r (omega arith) e h)
+
+-- what `==` says of two answers
+pub same_test : (a b : Three) → sameb the_type a b ≡ is_same a b
+same_test Yes Yes = refl
+same_test Yes No = refl
+same_test Yes Unknown = refl
+same_test No Yes = refl
+same_test No No = refl
+same_test No Unknown = refl
+same_test Unknown Yes = refl
+same_test Unknown No = refl
+same_test Unknown Unknown = refl
+
+with_some : (rs : List BinRun) (bin : ℕ) (a : Three) → is_same a No ≡ false → with_bin rs bin a ≡ extended rs bin a
+with_some rs bin Yes h = refl
+with_some rs bin No h = absurd cc
+with_some rs bin Unknown h = refl
+
+goes_on : (a b : Three) (past bin : ℕ) → past ≡ bin → is_same b a ≡ true → (is_same a b && eqb past bin) ≡ true
+goes_on a b past bin e h =
+    let same : is_same a b ≡ true = same_swap a b ∙ h in
+    let there : eqb past bin ≡ true = eq-eqb past bin e in
+    ap (λ (t : Bool). t && eqb past bin) same ∙ there
+
+ends_here : (a b : Three) (past bin : ℕ) (t : Bool) → (is_same a b && eqb past bin) ≡ t → (past ≡ bin → is_same b a ≡ false) → t ≡ false
+ends_here a b past bin false e h = refl
+ends_here a b past bin true e h =
+    let both = and_true (is_same a b) (eqb past bin) e in
+    let wrong : is_same b a ≡ false = h (eqb-true past bin both.1) in
+    let right : is_same b a ≡ true = same_swap b a ∙ both.0 in
+    absurd cc
+
+-- the last run goes on with the bin
+pub bin_on : (rs : List BinRun) (n bin : ℕ) (a : Three) (r s : BinRun) → n + 1 ≡ length rs → r ≡ get_or rs n r → s ≡ get_or rs n s → is_same a No ≡ false → r.past ≡ bin → is_same r.answer a ≡ true
+    → set rs n (run s.answer s.first (bin + 1)) ≡ with_bin rs bin a
+bin_on rs n bin a r s l e f some past same =
+    let one : get_or rs n r ≡ get_or rs n s = get_or-any rs n r s (omega arith) in
+    let item : s ≡ r = f ∙ sym one ∙ sym e in
+    ap (λ (x : BinRun). set rs n (run x.answer x.first (bin + 1))) item
+    ∙ ap (λ (b : Three). set rs n (run b r.first (bin + 1))) (same_is r.answer a same)
+    ∙ sym (extended_on rs n bin a r l e (goes_on a r.answer r.past bin past same))
+    ∙ sym (with_some rs bin a some)
+
+-- it doesn't
+pub bin_next : (rs : List BinRun) (n bin : ℕ) (a : Three) (r : BinRun) → n + 1 ≡ length rs → r ≡ get_or rs n r → is_same a No ≡ false → (r.past ≡ bin → is_same r.answer a ≡ false)
+    → rs ++ run a bin (bin + 1) ∷ [] ≡ with_bin rs bin a
+bin_next rs n bin a r l e some other =
+    sym (with_some rs bin a some ∙ extended_next rs n bin a r l e (ends_here a r.answer r.past bin (is_same a r.answer && eqb r.past bin) refl other))
+
+-- there is none
+pub bin_first : (rs : List BinRun) (bin : ℕ) (a : Three) → length rs ≤ 0 → is_same a No ≡ false → rs ++ run a bin (bin + 1) ∷ [] ≡ with_bin rs bin a
+bin_first [] bin a l some = sym (with_some [] bin a some)
+bin_first (r ∷ rs) bin a l some = absurd (omega arith)
 
 -- ---- the runs in the bins' own words
 

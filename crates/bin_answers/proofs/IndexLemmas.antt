@@ -88,7 +88,6 @@ needed_cut head runs i d l =
     ap (flat_map of_run) (cut runs i d l) ∙ flat_map-append of_run (take i runs) (get_or runs i d ∷ [] ++ drop (i + 1) runs)
     ∙ ap (λ l. flat_map of_run (take i runs) ++ l) (flat_map-append of_run (get_or runs i d ∷ []) (drop (i + 1) runs))
 
-
 rows_one : (rows : ℕ) (bins : List Bin) (a : Three) (r : BinRun) (t : Bool) → is_same a r.answer ≡ t
     → rows_of_runs rows bins a (r ∷ []) ≡ cond t (union_of rows (in_run r.first r.past) (vectors bins) ∷ []) []
 rows_one rows bins a r t e = ap (λ (s : Bool). map (λ (x : BinRun). union_of rows (in_run x.first x.past) (vectors bins)) (cond s (r ∷ []) [])) e ∙ by_case t

@@ -1,0 +1,6 @@
+pub mod PlaceLemmas
+pub mod RunLemmas
+pub mod BlockLemmas
+pub mod ReadLemmas
+pub mod FoundLemmas
+pub mod WalkLemmas

@@ -20,7 +20,7 @@ pub record HasNumbers (files : Option Files) (column : ColumnRef) (numbers : Lis
 -- whether each row's number is in the spans, over a file that has numbers
 pub record AreNumberTests (files : Option Files) (column : ColumnRef) (spans : List Span) (tests : List Bool) : Type 0 where
   pub numbers : List ℤ
-  pub has : HasNumbers files column numbers
+  pub there : HasNumbers files column numbers
   pub are : tests ≡ map (has spans) numbers
 
 -- the bytes of rows from one up to another

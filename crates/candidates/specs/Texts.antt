@@ -23,7 +23,7 @@ meets condition text = is_met condition (Word text)
 -- whether each row's text meets the condition, over a file that has texts
 pub record AreTextTests (files : Option Files) (opened : TextRef) (condition : Atom) (tests : List Bool) : Type 0 where
   pub texts : List (List ℕ)
-  pub has : HasTexts files opened texts
+  pub there : HasTexts files opened texts
   pub are : tests ≡ map (meets condition) texts
 
 -- the bytes of rows from one up to another

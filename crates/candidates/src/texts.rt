@@ -128,7 +128,7 @@ fn is_listed(texts: &[Label], word: &[u8]) -> bool
     ensures { result ≡ list_any (bytes_eq word.now) texts.now }
 {
     for text in texts {
-        if text.bytes() == word {
+        if word == text.bytes() {
             return true;
         }
     }

@@ -68,16 +68,16 @@ found_more c all bits seen gap many later same within split is =
     let short : length (take gap (drop seen all)) ≡ gap = length-take-le gap (drop seen all) (omega (arith, length-drop seen all, same, fits)) in
     let long : length (take many (drop (seen + gap) all)) ≡ many = length-take-le many (drop (seen + gap) all) (omega (arith, length-drop (seen + gap) all, same, fits)) in
     let zeros : take gap (drop seen both) ≡ replicate gap false =
-        ap (take gap) (each_drop and seen c all same)
-        ∙ each_take and gap (drop seen c) (drop seen all)
-        ∙ ap (λ l. each_place and l (take gap (drop seen all))) (ap (take gap) split ∙ take_at (replicate gap false) behind gap (length-replicate gap false))
-        ∙ each_left and false refl gap (take gap (drop seen all)) short in
+    ap (take gap) (each_drop and seen c all same)
+    ∙ each_take and gap (drop seen c) (drop seen all)
+    ∙ ap (λ l. each_place and l (take gap (drop seen all))) (ap (take gap) split ∙ take_at (replicate gap false) behind gap (length-replicate gap false))
+    ∙ each_left and false refl gap (take gap (drop seen all)) short in
     let tested : take many (drop (seen + gap) both) ≡ take many (drop (seen + gap) all) =
-        ap (take many) (each_drop and (seen + gap) c all same)
-        ∙ each_take and many (drop (seen + gap) c) (drop (seen + gap) all)
-        ∙ ap (λ l. each_place and l (take many (drop (seen + gap) all)))
-            (ap (take many) (left_over c seen gap many later split) ∙ take_at (replicate many true) later many (length-replicate many true))
-        ∙ each_true many (take many (drop (seen + gap) all)) long in
+    ap (take many) (each_drop and (seen + gap) c all same)
+    ∙ each_take and many (drop (seen + gap) c) (drop (seen + gap) all)
+    ∙ ap (λ l. each_place and l (take many (drop (seen + gap) all)))
+    (ap (take many) (left_over c seen gap many later split) ∙ take_at (replicate many true) later many (length-replicate many true))
+    ∙ each_true many (take many (drop (seen + gap) all)) long in
     ap (λ l. (l ++ replicate gap false) ++ take many (drop (seen + gap) all)) is
     ∙ ap (λ l. (take seen both ++ l) ++ take many (drop (seen + gap) all)) (sym zeros)
     ∙ ap (λ l. l ++ take many (drop (seen + gap) all)) (sym (take-add seen gap both))
@@ -93,7 +93,7 @@ found_last c all bits seen same none is =
     let count : length c - seen ≡ n = sym (length-drop seen c) in
     let long : length (drop seen all) ≡ n = length-drop seen all ∙ ap (λ k. k - seen) same ∙ count in
     let zeros : drop seen both ≡ replicate n false =
-        each_drop and seen c all same ∙ ap (λ l. each_place and l (drop seen all)) none ∙ each_left and false refl n (drop seen all) long in
+    each_drop and seen c all same ∙ ap (λ l. each_place and l (drop seen all)) none ∙ each_left and false refl n (drop seen all) long in
     ap (λ k. bits ++ replicate k false) count
     ∙ ap (λ l. l ++ replicate n false) is
     ∙ ap (λ l. take seen both ++ l) (sym zeros)

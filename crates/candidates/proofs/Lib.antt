@@ -1,3 +1,4 @@
+pub mod FaultLemmas
 pub mod PlaceLemmas
 pub mod RunLemmas
 pub mod BlockLemmas

@@ -61,6 +61,17 @@ part_is_block look rows seen gap many later first past read split begins ends pa
   within = λ row low high. run_true rows seen gap many later row split (omega (arith, begins, part.begins, low)) (omega (arith, begins, ends, part.ends, high));
 }
 
+-- the reads of a run, behind those of the runs before it
+pub run_reads : (tests : List Bool → Type 0) (look : ℕ × ℕ → Look) (takes : ℕ × ℕ → Bool) (rows : List Bool) (files : Option Files) (old mid now : Option (List Look)) (bits : List Bool) (left rest : List (ℕ × ℕ)) (first past : ℕ)
+    → Walked tests look takes rows files old mid bits left → left ≡ (first, past) ∷ rest → AddsOnly (IsPartLook look first past) mid now
+    → AddsOnly (IsBlockLook look rows) old now
+run_reads tests look takes rows files old mid now bits left rest first past w e reads =
+    let seen : ℕ = length bits in
+    let run = first_run seen (drop seen rows) first past rest (sym w.ahead ∙ e) in
+    AddsOnly-trans (IsBlockLook look rows) old mid now w.reads
+    (AddsOnly-weaken (IsPartLook look first past) (IsBlockLook look rows) mid now
+    (λ read part. part_is_block look rows seen run.gap run.many run.later first past read run.split run.begins run.ends part) reads)
+
 pub walk_goes_on : (tests : List Bool → Type 0) (look : ℕ × ℕ → Look) (takes : ℕ × ℕ → Bool) (rows : List Bool) (files : Option Files) (old mid now : Option (List Look)) (bits skipped more : List Bool) (left rest : List (ℕ × ℕ)) (first past : ℕ)
     → Walked tests look takes rows files old mid bits left → left ≡ (first, past) ∷ rest
     → skipped ≡ bits ++ replicate (first - length bits) false → length more ≡ past
@@ -88,9 +99,7 @@ walk_goes_on tests look takes rows files old mid now bits skipped more left rest
           ∙ ap (λ n. (bits ++ replicate run.gap false) ++ take run.many (drop n all)) (sym at)
           ∙ found_more rows all bits seen run.gap run.many run.later same w.within run.split (w.found all has same)
           ∙ ap (λ n. take n (each_place and rows all)) end;
-      reads = AddsOnly-trans (IsBlockLook look rows) old mid now w.reads
-          (AddsOnly-weaken (IsPartLook look first past) (IsBlockLook look rows) mid now
-          (λ read part. part_is_block look rows seen run.gap run.many run.later first past read run.split run.begins run.ends part) reads);
+      reads = run_reads tests look takes rows files old mid now bits left rest first past w e reads;
       done = w.done ++ (first, past) ∷ [];
       runs = append_assoc w.done ((first, past) ∷ []) rest ∙ ap (λ l. w.done ++ l) (sym e) ∙ w.runs;
       each = adds_blocks files old mid now look takes (flat_map blocks_of_run w.done) (blocks_of_run (first, past)) (flat_map blocks_of_run (w.done ++ (first, past) ∷ []))

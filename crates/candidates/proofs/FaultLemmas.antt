@@ -1,0 +1,80 @@
+-- What a fault of a file is as one of candidates.
+use Rattle.std.proofs.Common.{◌≡◌, ◌≢◌, ◌*◌, ◌<◌, ℕ, List, Option, Some, Result, Ok, Err, length, refl, subst, arith}
+use Rattle.fb_outside.specs.Causes.{HasCause}
+use Rattle.fb_outside.specs.Files.{Files, told_at}
+use Rattle.column_file.specs.Rows.{StopsReading}
+use Rattle.column_file.specs.Values.{width_in}
+use Rattle.column_file.specs.declared.column.ColumnRef.{ColumnRef}
+use Rattle.column_file.specs.declared.fault.ColFault.{ColFault}
+use Rattle.column_file.specs.declared.fault.ColFault.TheVariants as column
+use Rattle.text_column.specs.OpenedTexts.{StopsReadingTexts}
+use Rattle.text_column.specs.declared.fault.TextFault.{TextFault}
+use Rattle.text_column.specs.declared.fault.TextFault.TheVariants as text
+use Rattle.candidates.specs.Faults.{IsOfStore}
+use Rattle.candidates.specs.Numbers.{StopsNumbers}
+use Rattle.candidates.specs.declared.fault.FindFault.{FindFault}
+use Rattle.candidates.specs.declared.fault.FindFault.TheVariants.{Values, Texts, OutOfMemory}
+
+-- the same fault by another name
+pub cause_as : (before now : ℕ) (P Q : Type 0) → (P → Q) → (Q → P) → HasCause before now P → HasCause before now Q
+cause_as before now P Q there back h = record { later = h.later; rose = λ q. h.rose (back q); told = λ none. h.told (λ p. none (there p)) }
+
+-- ---- values
+
+pub column_store : (fault : ColFault) → IsOfStore (Values fault) → fault ≡ column.Store
+column_store column.Missing h = absurd h
+column_store (column.WrongLength want have) h = absurd h
+column_store column.MaskMissing h = absurd h
+column_store (column.Mask why) h = absurd h
+column_store column.MaskTrailing h = absurd h
+column_store (column.MaskLength want have) h = absurd h
+column_store column.Store h = refl
+column_store column.OutOfMemory h = absurd h
+
+pub store_of_column : (fault : ColFault) → fault ≡ column.Store → IsOfStore (Values fault)
+store_of_column column.Missing e = absurd (cc)
+store_of_column (column.WrongLength want have) e = absurd (cc)
+store_of_column column.MaskMissing e = absurd (cc)
+store_of_column (column.Mask why) e = absurd (cc)
+store_of_column column.MaskTrailing e = absurd (cc)
+store_of_column (column.MaskLength want have) e = absurd (cc)
+store_of_column column.Store e = tt
+store_of_column column.OutOfMemory e = absurd (cc)
+
+pub numbers_stop : (files : Option Files) (opened : ColumnRef) (most : ℕ) (fault : ColFault) → StopsReading most fault
+    → ((bytes : List ℕ) → told_at files opened.name ≡ Some bytes → length bytes ≡ opened.rows * width_in opened.ty → fault ≡ column.Store)
+    → StopsNumbers files opened (Values fault)
+numbers_stop files opened most column.Missing h whole = absurd h
+numbers_stop files opened most (column.WrongLength want have) h whole =
+    (omega (arith, h.0, h.1), λ bytes told long. let e : column.WrongLength want have ≡ column.Store = whole bytes told long in absurd (cc))
+numbers_stop files opened most column.MaskMissing h whole = absurd h
+numbers_stop files opened most (column.Mask why) h whole = absurd h
+numbers_stop files opened most column.MaskTrailing h whole = absurd h
+numbers_stop files opened most (column.MaskLength want have) h whole = absurd h
+numbers_stop files opened most column.Store h whole = tt
+numbers_stop files opened most column.OutOfMemory h whole = absurd h
+
+-- ---- texts, of faults that aren't want of memory
+
+pub text_store : (fault : TextFault) → IsOfStore (Texts fault) → fault ≡ text.Store
+text_store text.Missing h = absurd h
+text_store text.StartsMissing h = absurd h
+text_store (text.StartsLength want have) h = absurd h
+text_store (text.NotRising place) h = absurd h
+text_store (text.LastStart want have) h = absurd h
+text_store text.ShortRead h = absurd h
+text_store (text.Mask why) h = absurd h
+text_store text.Store h = refl
+text_store text.OutOfMemory h = absurd h
+
+pub store_of_text : (fault : TextFault) → fault ≡ text.Store → IsOfStore (Texts fault)
+store_of_text text.Missing e = absurd (cc)
+store_of_text text.StartsMissing e = absurd (cc)
+store_of_text (text.StartsLength want have) e = absurd (cc)
+store_of_text (text.NotRising place) e = absurd (cc)
+store_of_text (text.LastStart want have) e = absurd (cc)
+store_of_text text.ShortRead e = absurd (cc)
+store_of_text (text.Mask why) e = absurd (cc)
+store_of_text text.Store e = tt
+store_of_text text.OutOfMemory e = absurd (cc)
+

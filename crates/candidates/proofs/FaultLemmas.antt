@@ -1,5 +1,6 @@
 -- What a fault of a file is as one of candidates.
-use Rattle.std.proofs.Common.{◌≡◌, ◌≢◌, ◌*◌, ◌<◌, ℕ, List, Option, Some, Result, Ok, Err, length, refl, subst, arith}
+use Rattle.std.proofs.Common.{◌≡◌, ◌≢◌, ◌*◌, ◌<◌, ℕ, List, Option, Some, Result, Ok, Err, length, slice_index, refl, ap, subst, arith}
+use Rattle.std.specs.Prelude.{IsErrOf}
 use Rattle.fb_outside.specs.Causes.{HasCause}
 use Rattle.fb_outside.specs.Files.{Files, told_at}
 use Rattle.column_file.specs.Rows.{StopsReading}
@@ -10,7 +11,9 @@ use Rattle.column_file.specs.declared.fault.ColFault.TheVariants as column
 use Rattle.text_column.specs.OpenedTexts.{StopsReadingTexts}
 use Rattle.text_column.specs.declared.fault.TextFault.{TextFault}
 use Rattle.text_column.specs.declared.fault.TextFault.TheVariants as text
+use Rattle.text_column.specs.declared.text_ref.TextRef.{TextRef}
 use Rattle.candidates.specs.Faults.{IsOfStore}
+use Rattle.candidates.specs.Texts.{StopsTexts}
 use Rattle.candidates.specs.Numbers.{StopsNumbers}
 use Rattle.candidates.specs.declared.fault.FindFault.{FindFault}
 use Rattle.candidates.specs.declared.fault.FindFault.TheVariants.{Values, Texts, OutOfMemory}
@@ -18,6 +21,9 @@ use Rattle.candidates.specs.declared.fault.FindFault.TheVariants.{Values, Texts,
 -- the same fault by another name
 pub cause_as : (before now : ℕ) (P Q : Type 0) → (P → Q) → (Q → P) → HasCause before now P → HasCause before now Q
 cause_as before now P Q there back h = record { later = h.later; rose = λ q. h.rose (back q); told = λ none. h.told (λ p. none (there p)) }
+
+pub cause_done : {T E : Type 0} (before now : ℕ) (x : T) (fault : E) → HasCause before now (IsErrOf (Ok x) fault) → HasCause before now ⊥
+cause_done before now x fault h = cause_as before now (IsErrOf (Ok x) fault) ⊥ (λ (e : IsErrOf (Ok x) fault). absurd (cc)) (λ (n : ⊥). n) h
 
 -- ---- values
 
@@ -54,6 +60,15 @@ numbers_stop files opened most (column.MaskLength want have) h whole = absurd h
 numbers_stop files opened most column.Store h whole = tt
 numbers_stop files opened most column.OutOfMemory h whole = absurd h
 
+pub column_cause : (before now : ℕ) (fault : ColFault) → HasCause before now (IsErrOf {T = Unit {0}} (Err fault) column.Store) → HasCause before now (IsOfStore (Values fault))
+column_cause before now fault h =
+    cause_as before now (IsErrOf {T = Unit {0}} (Err fault) column.Store) (IsOfStore (Values fault))
+    (λ (e : IsErrOf {T = Unit {0}} (Err fault) column.Store). store_of_column fault (same_fault fault column.Store e))
+    (λ s. ap Err (column_store fault s)) h
+  where
+    same_fault : (x y : ColFault) → IsErrOf {T = Unit {0}} (Err x) y → x ≡ y
+    same_fault x y e = cc
+
 -- ---- texts, of faults that aren't want of memory
 
 pub text_store : (fault : TextFault) → IsOfStore (Texts fault) → fault ≡ text.Store
@@ -78,3 +93,36 @@ store_of_text (text.Mask why) e = absurd (cc)
 store_of_text text.Store e = tt
 store_of_text text.OutOfMemory e = absurd (cc)
 
+pub text_cause : {T : Type 0} (before now : ℕ) (fault : TextFault) → HasCause before now (IsErrOf {T = T} (Err fault) text.Store) → HasCause before now (IsOfStore (Texts fault))
+text_cause {T = T} before now fault h =
+    cause_as before now (IsErrOf {T = T} (Err fault) text.Store) (IsOfStore (Texts fault))
+    (λ (e : IsErrOf {T = T} (Err fault) text.Store). store_of_text fault (same_fault fault text.Store e))
+    (λ s. ap Err (text_store fault s)) h
+  where
+    same_fault : (x y : TextFault) → IsErrOf {T = T} (Err x) y → x ≡ y
+    same_fault x y e = cc
+
+pub texts_stop : (files : Option Files) (opened : TextRef) (fault : TextFault) → StopsReadingTexts fault → (fault ≡ text.OutOfMemory → ⊥)
+    → ((bytes : List ℕ) → told_at files opened.name ≡ Some bytes → length bytes ≡ slice_index opened.starts.items opened.rows → fault ≡ text.ShortRead → ⊥)
+    → StopsTexts files opened (Texts fault)
+texts_stop files opened text.Missing h other whole = absurd h
+texts_stop files opened text.StartsMissing h other whole = absurd h
+texts_stop files opened (text.StartsLength want have) h other whole = absurd h
+texts_stop files opened (text.NotRising place) h other whole = absurd h
+texts_stop files opened (text.LastStart want have) h other whole = absurd h
+texts_stop files opened text.ShortRead h other whole = λ bytes told long. whole bytes told long refl
+texts_stop files opened (text.Mask why) h other whole = absurd h
+texts_stop files opened text.Store h other whole = tt
+texts_stop files opened text.OutOfMemory h other whole = absurd (other refl)
+
+-- over a file that isn't too short only the store can have failed
+pub texts_outside : (fault : TextFault) → StopsReadingTexts fault → (fault ≡ text.OutOfMemory → ⊥) → (fault ≡ text.ShortRead → ⊥) → IsOfStore (Texts fault)
+texts_outside text.Missing h other short = absurd h
+texts_outside text.StartsMissing h other short = absurd h
+texts_outside (text.StartsLength want have) h other short = absurd h
+texts_outside (text.NotRising place) h other short = absurd h
+texts_outside (text.LastStart want have) h other short = absurd h
+texts_outside text.ShortRead h other short = absurd (short refl)
+texts_outside (text.Mask why) h other short = absurd h
+texts_outside text.Store h other short = tt
+texts_outside text.OutOfMemory h other short = absurd (other refl)

@@ -1,7 +1,7 @@
 -- Candidates that pass, run by run.
-use Rattle.std.proofs.Common.{◌≡◌, ℕ, zero, suc, ◌+◌, ◌-◌, ◌<◌, ◌≤◌, Bool, true, false, List, [], ◌∷◌, ◌++◌, length, get_or, take, drop, replicate, refl, sym, ap, ◌∙◌, arith}
+use Rattle.std.proofs.Common.{◌≡◌, ℕ, zero, suc, ◌+◌, ◌-◌, ◌<◌, ◌≤◌, Bool, true, false, List, [], ◌∷◌, ◌++◌, length, get_or, take, drop, map, replicate, refl, sym, ap, ◌∙◌, arith}
 use Rattle.std.proofs.Math.Seq.{take-add}
-use Rattle.std.proofs.lemmas.List.{drop-drop, drop_at, get_or-append_right, get_or-drop, get_or-replicate, get_or_append_left, length-append, length-drop, length-replicate, length-take-le, take-append-drop, take_at}
+use Rattle.std.proofs.lemmas.List.{drop-drop, drop-map, drop_at, get_or-append_right, get_or-drop, get_or-replicate, get_or_append_left, length-append, length-drop, length-replicate, length-take-le, take-append-drop, take-map, take_at}
 use Rattle.wah_logic.specs.Logic.{and, each_place}
 use Rattle.wah_logic.proofs.JoinLemmas.{each_left, length-each}
 
@@ -111,3 +111,9 @@ tests_more all first at end low high =
     ∙ ap (λ l. take a (drop first all) ++ take b l) (sym (drop-drop a first all))
     ∙ sym (take-add a b (drop first all))
     ∙ ap (λ n. take n (drop first all)) total
+
+-- the tests of some values are those of their rows
+pub tests_of_part : {X : Type 0} (test : X → Bool) (values part : List X) (all : List Bool) (n first : ℕ) → all ≡ map test values → part ≡ take n (drop first values)
+    → map test part ≡ take n (drop first all)
+tests_of_part test values part all n first e p =
+    ap (map test) p ∙ sym (take-map test n (drop first values)) ∙ ap (take n) (sym (drop-map test first values)) ∙ ap (λ l. take n (drop first l)) (sym e)

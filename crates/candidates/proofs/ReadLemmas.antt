@@ -1,6 +1,7 @@
 -- The reads of blocks, joined.
-use Rattle.std.proofs.Common.{◌≡◌, ℕ, Bool, List, [], ◌∷◌, ◌++◌, Option, Some, None, map, refl, sym, ap, subst, ◌∙◌, is_some}
+use Rattle.std.proofs.Common.{◌≡◌, ◌<◌, ℕ, Bool, true, false, cond, nat_lt, List, [], ◌∷◌, ◌++◌, Option, Some, None, map, refl, sym, ap, subst, ◌∙◌, is_some, arith}
 use Rattle.std.specs.List.{filter}
+use Rattle.std.proofs.lemmas.Bool.Decides.{nat_tests}
 use Rattle.std.proofs.lemmas.List.{map-append}
 use Rattle.std.proofs.lemmas.List.Elements.{filter-append}
 use Rattle.fb_outside.specs.Files.{Files, file_at}
@@ -33,3 +34,16 @@ pub adds_blocks : (files : Option Files) (old mid new : Option (List Look)) (loo
 adds_blocks files old mid new look takes xs ys all e h k =
     subst (λ (l : List Look). AddsAll files old new l) (reads_joined look takes xs ys ∙ ap (reads_of look takes) (sym e))
     (adds_more files old mid new (reads_of look takes xs) (reads_of look takes ys) h k)
+
+-- a block that is read where it has bytes
+adds_where : (files : Option Files) (old new : Option (List Look)) (look : ℕ × ℕ → Look) (rows : ℕ × ℕ) (t : Bool)
+    → (t ≡ true → AddsRead files old new (look rows)) → (t ≡ false → new ≡ old) → AddsAll files old new (map look (cond t (rows ∷ []) []))
+adds_where files old new look rows true h k = adds_read files old new (look rows) (h refl)
+adds_where files old new look rows false h k = subst (λ (now : Option (List Look)). AddsAll files old now []) (sym (k refl)) (adds_none files old)
+
+pub adds_if_some : (files : Option Files) (old new : Option (List Look)) (look : ℕ × ℕ → Look) (size : ℕ × ℕ → ℕ) (rows : ℕ × ℕ)
+    → (0 < size rows → AddsRead files old new (look rows)) → (size rows ≡ 0 → new ≡ old) → AddsAll files old new (reads_of look (λ block. nat_lt 0 (size block)) (rows ∷ []))
+adds_if_some files old new look size rows h k =
+    adds_where files old new look rows (nat_lt 0 (size rows))
+    (λ t. let some : 0 < size rows = grind (arith, nat_tests) in h some)
+    (λ f. let none : size rows ≡ 0 = grind (arith, nat_tests) in k none)

@@ -1,16 +1,16 @@
 //! Candidates of a column of numbers or codes, which are read.
 
-ghost use Rattle.std.specs.Prelude.{◌≡◌, ◌+◌, ◌^◌, ◌<◌, ◌≤◌, ◌++◌, ℤ, List, IfErr, IfOk, IsErrOf, IsSome, OnOk, length, map};
+ghost use Rattle.std.specs.Prelude.{◌≡◌, ◌+◌, ◌^◌, ◌<◌, ◌≤◌, ◌++◌, ℤ, List, IfErr, IfOk, IsErrOf, IsSome, OnOk, drop, length, map, take};
 ghost use Rattle.fb_outside.specs.Causes.{HasCause};
 ghost use Rattle.fb_outside.specs.Files.{SameFiles};
-ghost use Rattle.fb_outside.specs.Reads.{AddsOnly};
+ghost use Rattle.fb_outside.specs.Reads.{AddsOnly, AddsRead};
 ghost use Rattle.fb_types.specs.Types.{width_of};
 ghost use Rattle.wah_words.specs.Places.{places};
 ghost use Rattle.wah_words.specs.Spelling.{words_of};
 ghost use Rattle.wah_logic.specs.Logic.{and, each_place};
 ghost use Rattle.binning.specs.Spans.{has};
 ghost use Rattle.candidates.specs.Blocks.{blocks_of};
-ghost use Rattle.candidates.specs.Faults.{IsOfOutside};
+ghost use Rattle.candidates.specs.Faults.{IsOfOutside, StoreFailed};
 ghost use Rattle.candidates.specs.Numbers.{HasNumbers, StopsNumbers, numbers_look};
 ghost use Rattle.candidates.specs.Reads.{AddsAll, IsBlockLook};
 
@@ -90,13 +90,34 @@ impl<'a> Rows for Numbers<'a> {
         found: &mut Found,
     ) -> Result<(), FindFault> {
         let numbers = &mut block[..(past - first) as usize];
-        match read_rows(store, self.column, first, numbers) {
-            Ok(()) => {
-                push_tests(numbers, self.spans, found);
-                Ok(())
-            }
-            Err(fault) => Err(FindFault::Values(fault)),
-        }
+        read_block(store, self.column, first, numbers)?;
+        push_tests(numbers, self.spans, found);
+        Ok(())
+    }
+}
+
+/// Fills the block with the numbers of the rows from the first on.
+fn read_block<S: Store>(
+    store: &mut S,
+    column: &ColumnRef,
+    first: u32,
+    block: &mut [i128],
+) -> Result<(), FindFault>
+    requires width { IsSome (width_of column.now.ty) }
+    requires rows { first + length block.old ≤ column.now.rows }
+    requires few { length block.old ≤ 4096 }
+    ensures cause { HasCause (S.faults store.old) (S.faults store.new) (StoreFailed result) }
+    ensures files { SameFiles (S.files store.old) (S.files store.new) }
+    ensures stop { IfErr result (StopsNumbers (S.files store.old) column.now) }
+    ensures room { length block.new ≡ length block.old }
+    ensures numbers { OnOk result ((numbers : List ℤ) → HasNumbers (S.files store.old) column.now numbers
+        → block.new ≡ take (length block.old) (drop first numbers)) }
+    ensures whole { IfErr result (λ fault. (numbers : List ℤ) → HasNumbers (S.files store.old) column.now numbers → IsOfOutside fault) }
+    ensures read { AddsRead (S.files store.old) (S.reads store.old) (S.reads store.new) (numbers_look column.now (first, first + length block.old)) }
+{
+    match read_rows(store, column, first, block) {
+        Ok(()) => Ok(()),
+        Err(fault) => Err(FindFault::Values(fault)),
     }
 }
 

@@ -1,6 +1,6 @@
 //! Candidates of a column of texts, which are read.
 
-ghost use Rattle.std.specs.Prelude.{◌≡◌, ◌+◌, ◌≤◌, ◌++◌, ℕ, List, IfErr, IfOk, IsErrOf, OnOk, length, map};
+ghost use Rattle.std.specs.Prelude.{◌≡◌, ◌+◌, ◌-◌, ◌<◌, ◌≤◌, ◌++◌, ◌∷◌, [], ℕ, List, IfErr, IfOk, IsErrOf, OnOk, drop, length, map, take};
 ghost use Rattle.std.specs.List.{filter, list_any};
 ghost use Rattle.std.specs.Str.{bytes_eq};
 ghost use Rattle.fb_outside.specs.Causes.{HasCause};
@@ -9,8 +9,8 @@ ghost use Rattle.fb_outside.specs.Reads.{AddsOnly};
 ghost use Rattle.wah_logic.specs.Logic.{and, each_place};
 ghost use Rattle.wah_words.specs.Spelling.{words_of};
 ghost use Rattle.candidates.specs.Blocks.{blocks_of};
-ghost use Rattle.candidates.specs.Faults.{IsOfOutside};
-ghost use Rattle.candidates.specs.Reads.{AddsAll, IsBlockLook};
+ghost use Rattle.candidates.specs.Faults.{IsOfOutside, StoreFailed};
+ghost use Rattle.candidates.specs.Reads.{AddsAll, IsBlockLook, reads_of};
 ghost use Rattle.candidates.specs.Texts.{HasTexts, StopsTexts, have_bytes, meets, texts_look};
 
 use crate::fault::FindFault;
@@ -87,14 +87,37 @@ impl<'a> Rows for Texts<'a> {
         _block: &mut [i128],
         found: &mut Found,
     ) -> Result<(), FindFault> {
-        match read_texts(alloc, store, self.text, first, past) {
-            Ok(texts) => {
-                push_tests(&texts, self.condition, found);
-                Ok(())
-            }
-            Err(TextFault::OutOfMemory) => Err(FindFault::OutOfMemory),
-            Err(fault) => Err(FindFault::Texts(fault)),
-        }
+        let texts = read_block(alloc, store, self.text, first, past)?;
+        push_tests(&texts, self.condition, found);
+        Ok(())
+    }
+}
+
+/// The texts of the rows from one up to another.
+fn read_block<S: Store>(
+    alloc: Global,
+    store: &mut S,
+    text: &TextRef,
+    first: u32,
+    past: u32,
+) -> Result<Vec<Label>, FindFault>
+    requires some { first < past }
+    requires rows { past ≤ text.now.rows }
+    ensures cause { HasCause (S.faults store.old) (S.faults store.new) (StoreFailed result) }
+    ensures files { SameFiles (S.files store.old) (S.files store.new) }
+    ensures stop { IfErr result (StopsTexts (S.files store.old) text.now) }
+    ensures count { IfOk result (λ read. length read.items ≡ past - first) }
+    ensures texts { IfOk result (λ read. (texts : List (List ℕ)) → HasTexts (S.files store.old) text.now texts
+        → read.items ≡ take (past - first) (drop first texts)) }
+    ensures whole { IfErr result (λ fault. (texts : List (List ℕ)) → HasTexts (S.files store.old) text.now texts → IsOfOutside fault) }
+    ensures reads { AddsOnly (λ read. read ≡ texts_look text.now (first, past)) (S.reads store.old) (S.reads store.new) }
+    ensures each { IfOk result (λ read. AddsAll (S.files store.old) (S.reads store.old) (S.reads store.new)
+        (reads_of (texts_look text.now) (have_bytes text.now) ((first, past) ∷ []))) }
+{
+    match read_texts(alloc, store, text, first, past) {
+        Ok(texts) => Ok(texts),
+        Err(TextFault::OutOfMemory) => Err(FindFault::OutOfMemory),
+        Err(fault) => Err(FindFault::Texts(fault)),
     }
 }
 

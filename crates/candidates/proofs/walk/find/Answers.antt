@@ -14,7 +14,7 @@ loop-first-init g c =
       unfailed = refl;
       kept = refl;
       room = refl;
-      rows = c.in_ok-found.ensures.rows ∙ c.len.ensures;
+      rows = c.in_ok-found.ensures.rows ∙ c.len.ensures.length;
       walked = walk_begins _ _ _ _ _ _ _ _ c.in_ok-found.ensures.bits c.row_runs-runs.ensures.runs;
       steps = ap (λ n. c.args.steps.now + n) c.row_runs-runs.ensures.words;
     }
@@ -57,7 +57,7 @@ loop-first-preserved g c =
     let values = c.args.values.now in
     let look = g.R.Rows.look values in
     let takes = g.R.Rows.takes_read values in
-    let run = (c.in-Some.first, c.in-Some.past) in
+    let run : ℕ × ℕ = (c.in-Some.first, c.in-Some.past) in
     record {
       unfailed = (rw c.in_ok-test_run.was at c.test_run.ensures.cause).told (λ e. e) ∙ inv.unfailed;
       kept = c.test_run.ensures.files ∙ inv.kept;

@@ -1,6 +1,6 @@
 -- What a fault of a file is as one of candidates.
-use Rattle.std.proofs.Common.{◌≡◌, ◌≢◌, ◌*◌, ◌<◌, ℕ, List, Option, Some, Result, Ok, Err, length, slice_index, refl, ap, subst, arith}
-use Rattle.std.specs.Prelude.{IsErrOf}
+use Rattle.std.proofs.Common.{◌≡◌, ◌≢◌, ◌*◌, ◌<◌, ℕ, List, Option, Some, Result, Ok, Err, length, slice_index, refl, ap, sym, subst, arith}
+use Rattle.std.specs.Prelude.{IfErr, IfOk, IsErrOf, OnOk}
 use Rattle.fb_outside.specs.Causes.{HasCause}
 use Rattle.fb_outside.specs.Files.{Files, told_at}
 use Rattle.column_file.specs.Rows.{StopsReading}
@@ -12,7 +12,7 @@ use Rattle.text_column.specs.OpenedTexts.{StopsReadingTexts}
 use Rattle.text_column.specs.declared.fault.TextFault.{TextFault}
 use Rattle.text_column.specs.declared.fault.TextFault.TheVariants as text
 use Rattle.text_column.specs.declared.text_ref.TextRef.{TextRef}
-use Rattle.candidates.specs.Faults.{IsOfStore}
+use Rattle.candidates.specs.Faults.{IsOfOutside, IsOfStore, text_fault}
 use Rattle.candidates.specs.Texts.{StopsTexts}
 use Rattle.candidates.specs.Numbers.{StopsNumbers}
 use Rattle.candidates.specs.declared.fault.FindFault.{FindFault}
@@ -23,7 +23,24 @@ pub cause_as : (before now : ℕ) (P Q : Type 0) → (P → Q) → (Q → P) →
 cause_as before now P Q there back h = record { later = h.later; rose = λ q. h.rose (back q); told = λ none. h.told (λ p. none (there p)) }
 
 pub cause_done : {T E : Type 0} (before now : ℕ) (x : T) (fault : E) → HasCause before now (IsErrOf (Ok x) fault) → HasCause before now ⊥
-cause_done before now x fault h = cause_as before now (IsErrOf (Ok x) fault) ⊥ (λ (e : IsErrOf (Ok x) fault). absurd (cc)) (λ (n : ⊥). n) h
+cause_done before now x fault h = cause_as before now (IsErrOf (Ok x) fault) ⊥ (λ (e : IsErrOf (Ok x) fault). absurd (cc)) (λ (n : ⊥). absurd n) h
+
+pub same_fault : {T E : Type 0} (x y : E) → IsErrOf {T = T} (Err x) y → x ≡ y
+same_fault x y e = cc
+
+-- ---- answers that say less
+
+pub if_err : {T E : Type 0} (r : Result T E) (P Q : E → Type 0) → ((e : E) → P e → Q e) → IfErr r P → IfErr r Q
+if_err (Ok x) P Q f h = tt
+if_err (Err e) P Q f h = f e h
+
+pub if_ok : {T E : Type 0} (r : Result T E) (P Q : T → Type 0) → ((x : T) → P x → Q x) → IfOk r P → IfOk r Q
+if_ok (Ok x) P Q f h = f x h
+if_ok (Err e) P Q f h = tt
+
+pub on_ok : {T E : Type 0} (r : Result T E) (P Q : Type 0) → (P → Q) → OnOk r P → OnOk r Q
+on_ok (Ok x) P Q f h = f h
+on_ok (Err e) P Q f h = tt
 
 -- ---- values
 
@@ -65,13 +82,10 @@ column_cause before now fault h =
     cause_as before now (IsErrOf {T = Unit {0}} (Err fault) column.Store) (IsOfStore (Values fault))
     (λ (e : IsErrOf {T = Unit {0}} (Err fault) column.Store). store_of_column fault (same_fault fault column.Store e))
     (λ s. ap Err (column_store fault s)) h
-  where
-    same_fault : (x y : ColFault) → IsErrOf {T = Unit {0}} (Err x) y → x ≡ y
-    same_fault x y e = cc
 
--- ---- texts, of faults that aren't want of memory
+-- ---- texts
 
-pub text_store : (fault : TextFault) → IsOfStore (Texts fault) → fault ≡ text.Store
+text_store : (fault : TextFault) → IsOfStore (text_fault fault) → fault ≡ text.Store
 text_store text.Missing h = absurd h
 text_store text.StartsMissing h = absurd h
 text_store (text.StartsLength want have) h = absurd h
@@ -82,47 +96,36 @@ text_store (text.Mask why) h = absurd h
 text_store text.Store h = refl
 text_store text.OutOfMemory h = absurd h
 
-pub store_of_text : (fault : TextFault) → fault ≡ text.Store → IsOfStore (Texts fault)
-store_of_text text.Missing e = absurd (cc)
-store_of_text text.StartsMissing e = absurd (cc)
-store_of_text (text.StartsLength want have) e = absurd (cc)
-store_of_text (text.NotRising place) e = absurd (cc)
-store_of_text (text.LastStart want have) e = absurd (cc)
-store_of_text text.ShortRead e = absurd (cc)
-store_of_text (text.Mask why) e = absurd (cc)
-store_of_text text.Store e = tt
-store_of_text text.OutOfMemory e = absurd (cc)
+store_of_text : (fault : TextFault) → fault ≡ text.Store → IsOfStore (text_fault fault)
+store_of_text fault e = subst (λ (f : TextFault). IsOfStore (text_fault f)) (sym e) tt
 
-pub text_cause : {T : Type 0} (before now : ℕ) (fault : TextFault) → HasCause before now (IsErrOf {T = T} (Err fault) text.Store) → HasCause before now (IsOfStore (Texts fault))
+pub text_cause : {T : Type 0} (before now : ℕ) (fault : TextFault) → HasCause before now (IsErrOf {T = T} (Err fault) text.Store) → HasCause before now (IsOfStore (text_fault fault))
 text_cause {T = T} before now fault h =
-    cause_as before now (IsErrOf {T = T} (Err fault) text.Store) (IsOfStore (Texts fault))
+    cause_as before now (IsErrOf {T = T} (Err fault) text.Store) (IsOfStore (text_fault fault))
     (λ (e : IsErrOf {T = T} (Err fault) text.Store). store_of_text fault (same_fault fault text.Store e))
     (λ s. ap Err (text_store fault s)) h
-  where
-    same_fault : (x y : TextFault) → IsErrOf {T = T} (Err x) y → x ≡ y
-    same_fault x y e = cc
 
-pub texts_stop : (files : Option Files) (opened : TextRef) (fault : TextFault) → StopsReadingTexts fault → (fault ≡ text.OutOfMemory → ⊥)
+pub texts_stop : (files : Option Files) (opened : TextRef) (fault : TextFault) → StopsReadingTexts fault
     → ((bytes : List ℕ) → told_at files opened.name ≡ Some bytes → length bytes ≡ slice_index opened.starts.items opened.rows → fault ≡ text.ShortRead → ⊥)
-    → StopsTexts files opened (Texts fault)
-texts_stop files opened text.Missing h other whole = absurd h
-texts_stop files opened text.StartsMissing h other whole = absurd h
-texts_stop files opened (text.StartsLength want have) h other whole = absurd h
-texts_stop files opened (text.NotRising place) h other whole = absurd h
-texts_stop files opened (text.LastStart want have) h other whole = absurd h
-texts_stop files opened text.ShortRead h other whole = λ bytes told long. whole bytes told long refl
-texts_stop files opened (text.Mask why) h other whole = absurd h
-texts_stop files opened text.Store h other whole = tt
-texts_stop files opened text.OutOfMemory h other whole = absurd (other refl)
+    → StopsTexts files opened (text_fault fault)
+texts_stop files opened text.Missing h whole = absurd h
+texts_stop files opened text.StartsMissing h whole = absurd h
+texts_stop files opened (text.StartsLength want have) h whole = absurd h
+texts_stop files opened (text.NotRising place) h whole = absurd h
+texts_stop files opened (text.LastStart want have) h whole = absurd h
+texts_stop files opened text.ShortRead h whole = λ bytes told long. whole bytes told long refl
+texts_stop files opened (text.Mask why) h whole = absurd h
+texts_stop files opened text.Store h whole = tt
+texts_stop files opened text.OutOfMemory h whole = tt
 
--- over a file that isn't too short only the store can have failed
-pub texts_outside : (fault : TextFault) → StopsReadingTexts fault → (fault ≡ text.OutOfMemory → ⊥) → (fault ≡ text.ShortRead → ⊥) → IsOfStore (Texts fault)
-texts_outside text.Missing h other short = absurd h
-texts_outside text.StartsMissing h other short = absurd h
-texts_outside (text.StartsLength want have) h other short = absurd h
-texts_outside (text.NotRising place) h other short = absurd h
-texts_outside (text.LastStart want have) h other short = absurd h
-texts_outside text.ShortRead h other short = absurd (short refl)
-texts_outside (text.Mask why) h other short = absurd h
-texts_outside text.Store h other short = tt
-texts_outside text.OutOfMemory h other short = absurd (other refl)
+-- over a file that isn't too short
+pub texts_outside : (fault : TextFault) → StopsReadingTexts fault → (fault ≡ text.ShortRead → ⊥) → IsOfOutside (text_fault fault)
+texts_outside text.Missing h whole = absurd h
+texts_outside text.StartsMissing h whole = absurd h
+texts_outside (text.StartsLength want have) h whole = absurd h
+texts_outside (text.NotRising place) h whole = absurd h
+texts_outside (text.LastStart want have) h whole = absurd h
+texts_outside text.ShortRead h whole = absurd (whole refl)
+texts_outside (text.Mask why) h whole = absurd h
+texts_outside text.Store h whole = tt
+texts_outside text.OutOfMemory h whole = tt

@@ -47,3 +47,12 @@ adds_if_some files old new look size rows h k =
     adds_where files old new look rows (nat_lt 0 (size rows))
     (λ t. let some : 0 < size rows = grind (arith, nat_tests) in h some)
     (λ f. let none : size rows ≡ 0 = grind (arith, nat_tests) in k none)
+
+-- each block is read
+every_block : (blocks : List (ℕ × ℕ)) → filter (λ rows. true) blocks ≡ blocks
+every_block [] = refl
+every_block (b ∷ bs) = ap (λ l. b ∷ l) (every_block bs)
+
+pub adds_every : (files : Option Files) (old new : Option (List Look)) (look : ℕ × ℕ → Look) (blocks : List (ℕ × ℕ))
+    → AddsAll files old new (reads_of look (λ rows. true) blocks) → AddsAll files old new (map look blocks)
+adds_every files old new look blocks h = subst (λ (l : List Look). AddsAll files old new l) (ap (map look) (every_block blocks)) h

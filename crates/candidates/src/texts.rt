@@ -9,7 +9,7 @@ ghost use Rattle.fb_outside.specs.Reads.{AddsOnly};
 ghost use Rattle.wah_logic.specs.Logic.{and, each_place};
 ghost use Rattle.wah_words.specs.Spelling.{words_of};
 ghost use Rattle.candidates.specs.Blocks.{blocks_of};
-ghost use Rattle.candidates.specs.Faults.{IsOfOutside, StoreFailed};
+ghost use Rattle.candidates.specs.Faults.{IsOfOutside, StoreFailed, text_fault};
 ghost use Rattle.candidates.specs.Reads.{AddsAll, IsBlockLook, reads_of};
 ghost use Rattle.candidates.specs.Texts.{HasTexts, StopsTexts, have_bytes, meets, texts_look};
 
@@ -116,8 +116,17 @@ fn read_block<S: Store>(
 {
     match read_texts(alloc, store, text, first, past) {
         Ok(texts) => Ok(texts),
-        Err(TextFault::OutOfMemory) => Err(FindFault::OutOfMemory),
-        Err(fault) => Err(FindFault::Texts(fault)),
+        Err(fault) => Err(of_texts(fault)),
+    }
+}
+
+/// A fault of a column of texts. Want of memory is told by itself.
+fn of_texts(fault: TextFault) -> FindFault
+    ensures { result ≡ text_fault fault }
+{
+    match fault {
+        TextFault::OutOfMemory => FindFault::OutOfMemory,
+        fault => FindFault::Texts(fault),
     }
 }
 

@@ -15,7 +15,7 @@ overflow_mul-word c =
 pub overflow_add-word : goal.overflow_add-word
 overflow_add-word c =
     let small = small_word c.loop-number.word c.loop-number.number-index c.loop-number.invariant.fits (omega arith) in
-    record { fits = bit_small c.loop-number.word c.has.result small }
+    record { fits = bit_small c.loop-number.word _ small }
 
 pub loop-number-preserved : goal.loop-number-preserved
 loop-number-preserved c =

@@ -53,7 +53,7 @@ loop-at-preserved g c =
     let some = c.block_end-end.ensures.some in
     let few = c.block_end-end.ensures.few in
     let within = c.block_end-end.ensures.within in
-    let aligned = inv.whole c.loop-at-test.true in
+    let aligned = inv.whole (omega (arith, c.loop-at-test.true)) in
     record {
       unfailed = (rw c.in_ok-test.was at c.test.ensures.cause).told (λ e. e) ∙ inv.unfailed;
       kept = c.test.ensures.files ∙ inv.kept;

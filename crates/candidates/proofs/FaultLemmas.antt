@@ -1,5 +1,5 @@
 -- What a fault of a file is as one of candidates.
-use Rattle.std.proofs.Common.{◌≡◌, ◌≢◌, ◌*◌, ◌<◌, ℕ, List, Option, Some, Result, Ok, Err, length, slice_index, refl, ap, sym, subst, arith}
+use Rattle.std.proofs.Common.{◌≡◌, ◌*◌, ℕ, List, Option, Some, Result, Ok, Err, length, slice_index, refl, ap, sym, subst, arith}
 use Rattle.std.specs.Prelude.{IfErr, IfOk, IsErrOf, OnOk}
 use Rattle.fb_outside.specs.Causes.{HasCause}
 use Rattle.fb_outside.specs.Files.{Files, told_at}
@@ -15,8 +15,7 @@ use Rattle.text_column.specs.declared.text_ref.TextRef.{TextRef}
 use Rattle.candidates.specs.Faults.{IsOfOutside, IsOfStore, text_fault}
 use Rattle.candidates.specs.Texts.{StopsTexts}
 use Rattle.candidates.specs.Numbers.{StopsNumbers}
-use Rattle.candidates.specs.declared.fault.FindFault.{FindFault}
-use Rattle.candidates.specs.declared.fault.FindFault.TheVariants.{Values, Texts, OutOfMemory}
+use Rattle.candidates.specs.declared.fault.FindFault.TheVariants.{Values}
 
 -- the same fault by another name
 pub cause_as : (before now : ℕ) (P Q : Type 0) → (P → Q) → (Q → P) → HasCause before now P → HasCause before now Q

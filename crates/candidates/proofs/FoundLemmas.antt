@@ -1,9 +1,9 @@
 -- Candidates that pass, run by run.
 use Rattle.std.proofs.Common.{◌≡◌, ℕ, zero, suc, ◌+◌, ◌-◌, ◌<◌, ◌≤◌, Bool, true, false, List, [], ◌∷◌, ◌++◌, length, get_or, take, drop, map, replicate, refl, sym, ap, ◌∙◌, arith}
 use Rattle.std.proofs.Math.Seq.{take-add}
-use Rattle.std.proofs.lemmas.List.{drop-drop, drop-map, drop_at, get_or-append_right, get_or-drop, get_or-replicate, get_or_append_left, length-append, length-drop, length-replicate, length-take-le, take-append-drop, take-map, take_at}
+use Rattle.std.proofs.lemmas.List.{drop-drop, drop-map, drop_at, get_or-drop, get_or-replicate, get_or_append_left, length-append, length-drop, length-replicate, length-take-le, take-append-drop, take-map, take_at}
 use Rattle.wah_logic.specs.Logic.{and, each_place}
-use Rattle.wah_logic.proofs.JoinLemmas.{each_left, length-each}
+use Rattle.wah_logic.proofs.JoinLemmas.{each_left}
 
 each_take : (op : Bool → Bool → Bool) (n : ℕ) (a b : List Bool) → take n (each_place op a b) ≡ each_place op (take n a) (take n b)
 unfolding each_place

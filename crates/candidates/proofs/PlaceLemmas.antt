@@ -1,5 +1,5 @@
 -- Tests as the places of a number.
-use Rattle.std.proofs.Common.{◌≡◌, ◌<◌, ◌≤◌, ◌+◌, ◌*◌, ◌^◌, ℕ, Bool, true, false, List, [], ◌∷◌, pow_mono, refl, arith}
+use Rattle.std.proofs.Common.{◌≡◌, ◌<◌, ◌≤◌, ◌+◌, ◌*◌, ◌^◌, ℕ, Bool, true, false, [], ◌∷◌, pow_mono, refl, arith}
 use Rattle.std.proofs.lemmas.Grind.{pow_more}
 use Rattle.std.specs.Int.{from_bool}
 use Rattle.wah_words.specs.Places.{places}

@@ -5,7 +5,7 @@ use Rattle.std.proofs.lemmas.Bool.Decides.{nat_tests}
 use Rattle.std.proofs.lemmas.List.{map-append}
 use Rattle.std.proofs.lemmas.List.Elements.{filter-append}
 use Rattle.fb_outside.specs.Files.{Files, file_at}
-use Rattle.fb_outside.specs.Reads.{Look, AddsReads, AddsRead}
+use Rattle.fb_outside.specs.Reads.{Look, AddsRead}
 use Rattle.fb_outside.proofs.ReadLemmas.{AddsReads-same, AddsReads-trans, AddsReads-weaken}
 use Rattle.candidates.specs.Reads.{AddsAll, notes_of, reads_of}
 

@@ -1,5 +1,5 @@
 -- A column whose text file has texts.
-use Rattle.std.proofs.Common.{◌≡◌, ◌+◌, ℕ, List, Option, length, get_or, slice_index, ap, sym, ◌∙◌, arith}
+use Rattle.std.proofs.Common.{◌≡◌, ℕ, List, Option, length, get_or, slice_index, ap, sym, ◌∙◌, arith}
 use Rattle.fb_outside.specs.Files.{Files}
 use Rattle.text_column.specs.Texts.{starts_of, text_file}
 use Rattle.text_column.specs.declared.text_ref.TextRef.{TextRef}

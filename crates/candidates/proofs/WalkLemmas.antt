@@ -1,19 +1,18 @@
 -- How far a walk over candidates came.
-use Rattle.std.proofs.Common.{◌≡◌, ℕ, ◌+◌, ◌-◌, ◌<◌, ◌≤◌, Bool, true, false, List, [], ◌∷◌, ◌++◌, Option, length, get_or, take, drop, replicate, refl, sym, ap, subst, ◌∙◌, arith}
+use Rattle.std.proofs.Common.{◌≡◌, ℕ, ◌+◌, ◌-◌, ◌<◌, ◌≤◌, Bool, true, false, List, [], ◌∷◌, ◌++◌, Option, length, take, drop, replicate, refl, sym, ap, subst, ◌∙◌, arith}
 use Rattle.std.specs.List.{flat_map}
 use Rattle.std.proofs.lemmas.Grind.{flat_map-append}
-use Rattle.std.proofs.lemmas.List.{append-nil, append_assoc, length-append, length-drop, length-replicate}
+use Rattle.std.proofs.lemmas.List.{append-nil, append_assoc, length-append, length-replicate}
 use Rattle.fb_outside.specs.Files.{Files}
 use Rattle.fb_outside.specs.Reads.{AddsOnly, Look}
 use Rattle.fb_outside.proofs.ReadLemmas.{AddsOnly-same, AddsOnly-trans, AddsOnly-weaken}
 use Rattle.wah_iter.specs.Rows.{runs_from, runs_of}
 use Rattle.wah_logic.specs.Logic.{and, each_place}
-use Rattle.wah_logic.proofs.JoinLemmas.{length-each}
 use Rattle.candidates.specs.Blocks.{blocks_of, blocks_of_run}
 use Rattle.candidates.specs.Reads.{AddsAll, IsBlockLook, IsPartLook, reads_of}
 use Rattle.candidates.proofs.FoundLemmas.{found_last, found_more, left_behind, run_fits, run_true}
 use Rattle.candidates.proofs.ReadLemmas.{adds_blocks, adds_none}
-use Rattle.candidates.proofs.RunLemmas.{FirstRun, first_run, no_run}
+use Rattle.candidates.proofs.RunLemmas.{first_run, no_run}
 
 -- The rows of some runs are seen, and these runs are left.
 pub record Walked (tests : List Bool → Type 0) (look : ℕ × ℕ → Look) (takes : ℕ × ℕ → Bool) (rows : List Bool) (files : Option Files) (old now : Option (List Look)) (bits : List Bool) (left : List (ℕ × ℕ)) : Type 0 where

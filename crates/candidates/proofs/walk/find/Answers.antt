@@ -1,10 +1,7 @@
-use Rattle.std.proofs.Common.{◌≡◌, ℕ, ◌+◌, ◌-◌, ◌<◌, ◌≤◌, ◌++◌, ◌∷◌, [], false, Bool, List, length, replicate, refl, sym, ap, subst, ◌∙◌, arith, length-append}
+use Rattle.std.proofs.Common.{ℕ, ◌+◌, ◌-◌, ◌++◌, false, length, replicate, refl, sym, ap, subst, ◌∙◌, arith, length-append}
 use Rattle.std.proofs.lemmas.List.{length-replicate}
-use Rattle.fb_outside.specs.Reads.{AddsOnly}
-use Rattle.fb_outside.proofs.ReadLemmas.{AddsOnly-trans, AddsOnly-weaken}
-use Rattle.wah_logic.specs.Logic.{and, each_place}
-use Rattle.candidates.specs.Reads.{AddsAll, IsBlockLook, IsPartLook, reads_of}
-use Rattle.candidates.specs.Blocks.{blocks_of, blocks_of_run}
+use Rattle.candidates.specs.Reads.{AddsAll, reads_of}
+use Rattle.candidates.specs.Blocks.{blocks_of_run}
 use Rattle.candidates.proofs.WalkLemmas.{run_ahead, run_reads, walk_begins, walk_ends, walk_goes_on}
 use Rattle.candidates.proofs.walk.find.Goals as goal
 

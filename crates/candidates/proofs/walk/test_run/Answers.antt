@@ -1,4 +1,4 @@
-use Rattle.std.proofs.Common.{◌≡◌, ℕ, ◌+◌, ◌-◌, ◌%◌, ◌<◌, ◌≤◌, ◌++◌, ◌∷◌, [], Bool, List, length, take, drop, refl, sym, ap, subst, ◌∙◌, arith, append-nil, append_assoc}
+use Rattle.std.proofs.Common.{◌≡◌, ℕ, ◌-◌, ◌%◌, ◌++◌, ◌∷◌, [], List, take, drop, refl, sym, ap, subst, ◌∙◌, arith, append_assoc}
 use Rattle.fb_outside.specs.Reads.{Look}
 use Rattle.fb_outside.proofs.ReadLemmas.{AddsOnly-same, AddsOnly-trans, AddsOnly-weaken}
 use Rattle.candidates.specs.Blocks.{blocks_of_run}

@@ -1,4 +1,4 @@
-use Rattle.std.proofs.Common.{◌≡◌, ℕ, ◌-◌, ◌%◌, ◌<◌, ◌≤◌, ◌++◌, Bool, List, length, take, drop}
+use Rattle.std.proofs.Common.{◌≡◌, ◌-◌, ◌%◌, ◌<◌, ◌≤◌, ◌++◌, Bool, List, length, take, drop}
 use Rattle.fb_outside.specs.Files.{SameFiles}
 use Rattle.fb_outside.specs.Reads.{AddsOnly}
 use Rattle.candidates.specs.Blocks.{blocks_of_run}

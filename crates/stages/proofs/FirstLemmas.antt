@@ -1,10 +1,9 @@
 -- The first stage, condition by condition.
-use Rattle.std.proofs.Common.{◌≡◌, ℕ, zero, suc, ◌+◌, ◌*◌, ◌<◌, ◌≤◌, Bool, IsTrue, List, [], ◌∷◌, ◌++◌, Option, Some, None, All, length, map, take, drop, refl, sym, ap, subst, ◌∙◌, arith, append_assoc, length-append, inl, inr}
+use Rattle.std.proofs.Common.{◌≡◌, ℕ, zero, suc, ◌+◌, ◌*◌, ◌≤◌, Bool, List, [], ◌∷◌, ◌++◌, Option, Some, All, length, take, drop, refl, sym, ap, subst, ◌∙◌, arith, append_assoc, length-append, inl, inr}
 use Rattle.std.specs.Prelude.{◌⊎◌, slice_get}
 use Rattle.std.specs.List.{flat_map, list_any, sum_by}
 use Rattle.std.proofs.Math.Nat.{mul-le-mul_left}
 use Rattle.std.proofs.lemmas.List.Elements.{All-append, All-from_recursion}
-use Rattle.std.proofs.lemmas.Option.{get_or_from_slice_get, slice_get-get_or, slice_get_within}
 use Rattle.binning.specs.declared.against_bins.Three.{Three}
 use Rattle.fb_outside.specs.Reads.{Look}
 use Rattle.where_plan.specs.declared.plan.PlanAtom.{PlanAtom}
@@ -13,7 +12,7 @@ use Rattle.three_valued.specs.Rows.{columns, each_row}
 use Rattle.stages.specs.Looks.{AddsLooks}
 use Rattle.stages.specs.Meaning.{Meaning}
 use Rattle.stages.specs.Open.{AreOpen}
-use Rattle.stages.proofs.LookLemmas.{adds_done, adds_front, adds_joined, adds_none, adds_weaker}
+use Rattle.stages.proofs.LookLemmas.{adds_front, adds_joined, adds_none, adds_weaker}
 use Rattle.stages.proofs.ListLemmas.{any_at, flat_map_front, flat_map_taken, map_taken, one_long, sum_by_front, sum_by_taken}
 
 -- a read of a file of the column of one of these conditions

@@ -1,9 +1,9 @@
 -- Reads that calls add one after another: they are joined, less is said of them, and those of a call that was refused are a front.
-use Rattle.std.proofs.Common.{◌≡◌, ℕ, ◌≤◌, arith, Result, Err, Bool, IsTrue, true, List, [], ◌∷◌, ◌++◌, Option, refl, sym, ap, subst, ◌∙◌, append_assoc, append-nil}
+use Rattle.std.proofs.Common.{◌≡◌, ℕ, arith, Result, Err, Bool, IsTrue, List, [], ◌∷◌, ◌++◌, Option, refl, sym, ap, subst, ◌∙◌, append_assoc, append-nil}
 use Rattle.std.specs.List.{AllByRecursion, filter}
 use Rattle.std.proofs.lemmas.List.Elements.{filter-append}
 use Rattle.fb_outside.specs.Causes.{HasCause}
-use Rattle.fb_outside.specs.Reads.{Look, AddsReads}
+use Rattle.fb_outside.specs.Reads.{Look}
 use Rattle.fb_outside.proofs.ReadLemmas.{AddsReads-trans, AddsReads-weaken, AddsReads-same, all_weaken}
 use Rattle.stages.specs.Faults.{IsRefused}
 use Rattle.stages.specs.Looks.{AddsLooks, Looks}

@@ -1,7 +1,6 @@
 -- From the conditions' answers on the rows on which a plan is Unknown to the rows on which it is true.
-use Rattle.std.proofs.Common.{◌≡◌, ℕ, zero, suc, ◌+◌, ◌*◌, ◌<◌, ◌≤◌, ◌||◌, ◌&&◌, Bool, true, false, not, cond, IsTrue, List, [], ◌∷◌, Option, All, length, map, get_or, refl, sym, ap, subst, ◌∙◌, arith, append-nil}
+use Rattle.std.proofs.Common.{◌≡◌, ℕ, zero, suc, ◌+◌, ◌<◌, ◌||◌, ◌&&◌, Bool, true, false, cond, IsTrue, List, [], ◌∷◌, Option, length, map, get_or, refl, sym, ap, subst, ◌∙◌, arith, append-nil}
 use Rattle.std.specs.List.{AllByRecursion, count_by, filter, flat_map, list_any, range_with_len, sum_by}
-use Rattle.std.proofs.lemmas.List.{length-map}
 use Rattle.std.proofs.lemmas.List.Elements.{All-from_recursion}
 use Rattle.std.proofs.lemmas.List.FromFn.{get_or-map-range_with_len, length-map-range_with_len}
 use Rattle.std.proofs.lemmas.List.Sums.{sum_by-cons}
@@ -12,11 +11,11 @@ use Rattle.where_plan.specs.declared.plan.PlanAtom.{PlanAtom}
 use Rattle.where_plan.specs.declared.plan.Plan.{Plan}
 use Rattle.wah_iter.specs.Rows.{rows_of}
 use Rattle.wah_logic.specs.Logic.{and, each_place, ones, or}
-use Rattle.three_valued.specs.Candidates.{candidates, checked, definite_rows, is_candidate, possible_rows}
+use Rattle.three_valued.specs.Candidates.{candidates, checked, is_candidate}
 use Rattle.three_valued.specs.Deciding.{Decides}
-use Rattle.three_valued.specs.Plans.{AreDecided, AreSound, IsSound, atoms_of, is_true, three}
+use Rattle.three_valued.specs.Plans.{AreSound, IsSound, atoms_of, is_true, three}
 use Rattle.three_valued.specs.Rows.{columns, each_row}
-use Rattle.three_valued.specs.Tables.{decided, is_possible, is_unknown, is_yes}
+use Rattle.three_valued.specs.Tables.{decided, is_unknown, is_yes}
 use Rattle.three_valued.proofs.SoundLemmas.{known_truth, sound_plans}
 use Rattle.stages.specs.Answer.{bitmaps_in, is_allowed_in, is_allowed_on, is_free_in, met_of, true_of}
 use Rattle.stages.specs.Looks.{AddsLooks}

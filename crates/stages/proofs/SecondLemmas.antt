@@ -1,7 +1,7 @@
 -- The second stage, condition by condition.
-use Rattle.std.proofs.Common.{◌≡◌, ℕ, zero, suc, ◌+◌, ◌*◌, ◌<◌, ◌^◌, ◌≤◌, Bool, true, false, IsTrue, List, [], ◌∷◌, ◌++◌, Option, Some, None, All, length, map, take, get_or, refl, sym, ap, subst, ◌∙◌, arith, length-append, inl, inr}
+use Rattle.std.proofs.Common.{◌≡◌, ℕ, ◌+◌, ◌*◌, ◌<◌, ◌^◌, ◌≤◌, Bool, true, false, IsTrue, List, [], ◌∷◌, ◌++◌, Option, Some, All, length, map, take, get_or, refl, sym, ap, subst, ◌∙◌, arith, length-append, inl, inr}
 use Rattle.std.specs.Prelude.{◌⊎◌, slice_get}
-use Rattle.std.specs.List.{count_by, list_any, range_with_len, sum_by}
+use Rattle.std.specs.List.{list_any, range_with_len, sum_by}
 use Rattle.std.proofs.lemmas.List.FromFn.{get_or-map-range_with_len}
 use Rattle.std.proofs.lemmas.List.{length-map}
 use Rattle.std.proofs.lemmas.List.Elements.{All-append, All-from_recursion}
@@ -11,7 +11,7 @@ use Rattle.binning.specs.declared.against_bins.Three.TheVariants.{Yes, No, Unkno
 use Rattle.fb_outside.specs.Reads.{Look}
 use Rattle.where_plan.specs.declared.plan.PlanAtom.{PlanAtom}
 use Rattle.wah_iter.specs.Rows.{rows_of}
-use Rattle.wah_logic.specs.Logic.{and, each_place, groups_and_rest, ones}
+use Rattle.wah_logic.specs.Logic.{and, groups_and_rest, ones}
 use Rattle.wah_logic.proofs.JoinLemmas.{length-each}
 use Rattle.three_valued.specs.Rows.{columns, each_row}
 use Rattle.three_valued.specs.Tables.{is_unknown}
@@ -20,7 +20,7 @@ use Rattle.stages.specs.Faults.{IsOneOf}
 use Rattle.stages.specs.Looks.{AddsLooks}
 use Rattle.stages.specs.Meaning.{Meaning}
 use Rattle.stages.specs.Second.{candidates_in, candidates_of, exact_of, exact_on, settled_of}
-use Rattle.stages.proofs.LookLemmas.{adds_done, adds_joined, adds_none, adds_weaker}
+use Rattle.stages.proofs.LookLemmas.{adds_joined, adds_none, adds_weaker}
 use Rattle.stages.proofs.ListLemmas.{any_at, map_at, map_taken, one_long, sum_by_taken}
 use Rattle.stages.proofs.RowLemmas.{map-map, row_of_first}
 

@@ -1,7 +1,7 @@
 -- What a partition means to the conditions of plans.
 use Rattle.std.specs.Prelude.{◌≡◌, ℕ, ◌<◌, Bool, true, List}
 use Rattle.binning.specs.declared.against_bins.Three.{Three}
-use Rattle.binning.specs.declared.against_bins.Three.TheVariants.{No, Unknown}
+use Rattle.binning.specs.declared.against_bins.Three.TheVariants.{No}
 use Rattle.fb_outside.specs.Reads.{Look}
 use Rattle.where_plan.specs.declared.plan.PlanAtom.{PlanAtom}
 use Rattle.three_valued.specs.Plans.{IsSound}

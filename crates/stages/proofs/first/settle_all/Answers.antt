@@ -1,8 +1,7 @@
-use Rattle.std.proofs.Common.{◌≡◌, ◌+◌, ◌*◌, ◌≤◌, List, [], ◌∷◌, ◌++◌, All, IsOk, length, refl, sym, ap, subst, ◌∙◌, arith, inl, inr}
+use Rattle.std.proofs.Common.{◌+◌, [], ◌∷◌, ◌++◌, IsOk, refl, sym, subst, ◌∙◌, inr}
 use Rattle.std.proofs.lemmas.Result.{err_from_is_err_and}
-use Rattle.binning.specs.declared.against_bins.Three.{Three}
 use Rattle.stages.specs.Meaning.{Meaning}
-use Rattle.stages.proofs.FirstLemmas.{Settles, is_free_of, kept_settled, none_settled, one_settled, refused_reads, refused_steps}
+use Rattle.stages.proofs.FirstLemmas.{kept_settled, none_settled, one_settled, refused_reads, refused_steps}
 use Rattle.stages.proofs.LookLemmas.{adds_done}
 use Rattle.stages.proofs.ListLemmas.{all_at, err_not_ok}
 use Rattle.stages.proofs.first.settle_all.Goals as goal

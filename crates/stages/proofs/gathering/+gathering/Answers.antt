@@ -1,9 +1,8 @@
-use Rattle.std.proofs.Common.{◌≡◌, ◌+◌, ◌*◌, ◌<◌, ◌++◌, List, ◌∷◌, [], map, drop, ap, sym, subst, ◌∙◌, rules, arith, append_assoc, append-nil, OnOk}
-use Rattle.std.specs.List.{flat_map}
+use Rattle.std.proofs.Common.{◌≡◌, ◌+◌, ◌*◌, ◌<◌, ◌++◌, List, ◌∷◌, [], map, drop, ap, sym, subst, ◌∙◌, arith, append-nil, OnOk}
 use Rattle.std.proofs.lemmas.List.{map-append}
 use Rattle.where_plan.specs.declared.plan.PlanAtom.{PlanAtom}
 use Rattle.three_valued.specs.Plans.{atoms_of, parts_in, parts_of}
-use Rattle.three_valued.proofs.EvaluationLemmas.{and_group, drop_over, or_group, part_size, rest_cons, size_from, turned, xor_group}
+use Rattle.three_valued.proofs.EvaluationLemmas.{and_group, or_group, part_size, rest_cons, size_from, turned, xor_group}
 use Rattle.three_valued.proofs.PlanLemmas.{atoms_of-all, atoms_of-one}
 use Rattle.stages.proofs.gathering.+gathering.Goals as goal
 

@@ -1,4 +1,4 @@
-use Rattle.std.proofs.Common.{◌≡◌, ◌≤◌, sym, subst}
+use Rattle.std.proofs.Common.{◌≤◌, sym, subst}
 use Rattle.std.specs.List.{range_with_len}
 use Rattle.three_valued.specs.Candidates.{definite_rows, possible_rows}
 use Rattle.three_valued.specs.Plans.{is_true}

@@ -3,7 +3,7 @@ use Rattle.std.proofs.lemmas.List.{length-map}
 use Rattle.wah_logic.specs.Logic.{and, each_place, groups_and_rest, or}
 use Rattle.wah_logic.proofs.JoinLemmas.{length-each}
 use Rattle.wah_logic.proofs.UnionLemmas.{words_few}
-use Rattle.three_valued.specs.Tables.{decided, is_unknown, is_yes}
+use Rattle.three_valued.specs.Tables.{decided, is_yes}
 use Rattle.stages.proofs.LookLemmas.{adds_none}
 use Rattle.stages.proofs.SecondLemmas.{candidates_long, candidates_unknown}
 use Rattle.stages.proofs.second.decide.Goals as goal

@@ -1,4 +1,4 @@
-use Rattle.std.proofs.Common.{◌≡◌, ℕ, ◌+◌, ◌*◌, ◌≤◌, IsOk, length, refl, sym, subst}
+use Rattle.std.proofs.Common.{◌+◌, ◌*◌, ◌≤◌, IsOk, length, refl, sym, subst}
 use Rattle.std.specs.List.{sum_by}
 use Rattle.wah_logic.specs.Logic.{groups_and_rest}
 use Rattle.three_valued.specs.Plans.{parts_of}

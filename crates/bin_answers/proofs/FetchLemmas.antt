@@ -14,7 +14,7 @@ use Rattle.index_file.specs.Places.{bitmap_look}
 use Rattle.index_file.specs.declared.fault.IndexFault.{IndexFault}
 use Rattle.index_file.specs.declared.fault.IndexFault.TheVariants as index
 use Rattle.index_file.specs.declared.head.IndexHead.{IndexHead}
-use Rattle.bin_answers.specs.Fetched.{AreSound, Fetches, HasBins, IsFrontOf, IsOutside, StopsIn, bitmap_at, fault_or, first_fault, index_fault}
+use Rattle.bin_answers.specs.Fetched.{AreFaultless, Fetches, HasBins, IsFrontOf, IsOutside, StopsIn, bitmap_at, fault_or, first_fault, index_fault}
 use Rattle.bin_answers.specs.declared.fault.BinsFault.{BinsFault}
 use Rattle.bin_answers.specs.declared.fault.BinsFault.TheVariants.{Index, OutOfMemory}
 
@@ -53,19 +53,19 @@ fault_stays m head (x ∷ xs) ys why h =
     ]
     h
 
-pub sound_none : (files : Option Files) (head : IndexHead) → AreSound files head []
+pub sound_none : (files : Option Files) (head : IndexHead) → AreFaultless files head []
 unfolding first_fault
 sound_none files head = λ m e. refl
 
 -- further bitmaps without a fault, fetched over the same files
 pub sound_more : (files now : Option Files) (head : IndexHead) (xs ys all : List ℕ) → now ≡ files → all ≡ xs ++ ys
-    → AreSound files head xs → AreSound now head ys → AreSound files head all
+    → AreFaultless files head xs → AreFaultless now head ys → AreFaultless files head all
 sound_more files now head xs ys all same e h k = λ m told.
     ap (first_fault m head) e ∙ fault_behind m head xs ys (h m told) ∙ k m (same ∙ told)
 
 -- a fault behind bitmaps without one
 pub stop_more : (files now : Option Files) (head : IndexHead) (xs ys rest all : List ℕ) (fault : BinsFault) → now ≡ files → all ≡ xs ++ (ys ++ rest)
-    → AreSound files head xs → StopsIn now head ys fault → StopsIn files head all fault
+    → AreFaultless files head xs → StopsIn now head ys fault → StopsIn files head all fault
 stop_more files now head xs ys rest all fault same e h k = record {
   first = λ m why told is other.
       ap (first_fault m head) e ∙ fault_behind m head xs (ys ++ rest) (h m told) ∙ fault_stays m head ys rest why (k.first m why (same ∙ told) is other);
@@ -130,7 +130,7 @@ some_of : (P : Files → Type 0) (files : Option Files) → IfSome files P → (
 some_of P files h m e = subst (λ (f : Option Files). IfSome f P) e h
 
 -- a bitmap that is fetched has no fault
-pub one_sound : (files : Option Files) (head : IndexHead) (k : ℕ) (bits : List Bool) → IfSome files (λ m. bitmap_at m head k ≡ Ok bits) → AreSound files head (k ∷ [])
+pub one_sound : (files : Option Files) (head : IndexHead) (k : ℕ) (bits : List Bool) → IfSome files (λ m. bitmap_at m head k ≡ Ok bits) → AreFaultless files head (k ∷ [])
 unfolding first_fault
 one_sound files head k bits h = λ m told. ap (λ (r : Result (List Bool) IndexFault). fault_or r None) (some_of (λ f. bitmap_at f head k ≡ Ok bits) files h m told)
 
@@ -169,7 +169,7 @@ one_look_yet files old new head k not h = λ m told there. AddsReads-weaken old 
 
 -- they have no fault
 pub bins_sound : (files : Option Files) (head : IndexHead) (mask : List Bool) (bins : List Bin) (numbers : List ℕ) → HasBins files head mask bins
-    → All (λ k. k + 1 < length head.offsets) numbers → AreSound files head numbers
+    → All (λ k. k + 1 < length head.offsets) numbers → AreFaultless files head numbers
 unfolding first_fault
 bins_sound files head mask bins [] h below = λ m told. refl
 bins_sound files head mask bins (k ∷ numbers) h below = λ m told.

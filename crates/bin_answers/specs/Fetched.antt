@@ -67,8 +67,8 @@ index_fault index.OutOfMemory = OutOfMemory
 index_fault why = Index why
 
 -- where the files are told, none of these bitmaps has a fault
-abbrev pub AreSound : Option Files → IndexHead → List ℕ → Type 0
-AreSound files head numbers = (m : Files) → files ≡ Some m → first_fault m head numbers ≡ None
+abbrev pub AreFaultless : Option Files → IndexHead → List ℕ → Type 0
+AreFaultless files head numbers = (m : Files) → files ≡ Some m → first_fault m head numbers ≡ None
 
 -- Where the files are told, the fault is that of the first of these bitmaps that has one, unless the store failed or memory
 -- ran out.
@@ -78,7 +78,7 @@ pub record StopsIn (files : Option Files) (head : IndexHead) (numbers : List ℕ
 
 -- what a call that fetches these bitmaps tells of them
 abbrev pub Tells : {A : Type 0} → Option Files → IndexHead → List ℕ → Result A BinsFault → Type 0
-Tells files head numbers (Ok value) = AreSound files head numbers
+Tells files head numbers (Ok value) = AreFaultless files head numbers
 Tells files head numbers (Err fault) = StopsIn files head numbers fault
 
 -- the store failed, or memory ran out

@@ -3,7 +3,7 @@ use Rattle.std.proofs.lemmas.List.{take_all}
 use Rattle.std.proofs.lemmas.Result.{err_from_is_err_and}
 use Rattle.binning.specs.Encodings.{vectors}
 use Rattle.binning.specs.Members.{bitmap}
-use Rattle.bin_answers.specs.Fetched.{AreSound}
+use Rattle.bin_answers.specs.Fetched.{AreFaultless}
 use Rattle.bin_answers.proofs.FetchLemmas.{all_more, cause_from, cut, fetches_less, fetches_more, fetches_none, fetches_yet, grown, longer, sound_more, sound_none, still_bins, stop_memory, stop_more, taken_more}
 use Rattle.bin_answers.proofs.open_index.OpenIndex.fetch_all.Goals as goal
 
@@ -41,7 +41,7 @@ loop-k-preserved g c =
 
 pub returns-clause-exact : goal.returns-clause-exact
 returns-clause-exact g c =
-    subst (λ (ns : List ℕ). AreSound (g.S.Store.files c.args.store.now) c.args.self.now.head ns) (take_all c.loop-k.k-index c.args.numbers.now (omega (arith, c.loop-k-test.false)))
+    subst (λ (ns : List ℕ). AreFaultless (g.S.Store.files c.args.store.now) c.args.self.now.head ns) (take_all c.loop-k.k-index c.args.numbers.now (omega (arith, c.loop-k-test.false)))
     c.loop-k.invariant.sound
 
 pub returns-clause-reads : goal.returns-clause-reads

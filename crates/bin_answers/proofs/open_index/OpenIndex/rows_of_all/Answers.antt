@@ -5,7 +5,7 @@ use Rattle.wah_logic.specs.Logic.{groups_and_rest}
 use Rattle.binning.specs.declared.against_bins.Three.TheVariants.{Unknown, Yes}
 use Rattle.bin_answers.specs.BinRuns.{is_same, run}
 use Rattle.bin_answers.specs.Bins.{rows_of_runs}
-use Rattle.bin_answers.specs.Fetched.{AreSound, needed_by}
+use Rattle.bin_answers.specs.Fetched.{AreFaultless, needed_by}
 use Rattle.bin_answers.specs.declared.bin_runs.BinRun.{BinRun}
 use Rattle.bin_answers.proofs.FetchLemmas.{cause_from, fetches_less, fetches_more, fetches_none, sound_more, sound_none, still_bins, stop_memory, stop_more}
 use Rattle.bin_answers.proofs.IndexLemmas.{count_more, long_more, more_steps, needed_cut, needed_more, runs_more, steps_cut, within_steps}
@@ -56,7 +56,7 @@ loop-run-preserved g c =
 
 pub returns-clause-exact : goal.returns-clause-exact
 returns-clause-exact g c =
-    subst (λ (rs : List BinRun). AreSound (g.S.Store.files c.args.store.now) c.args.self.now.head (needed_by c.args.self.now.head rs))
+    subst (λ (rs : List BinRun). AreFaultless (g.S.Store.files c.args.store.now) c.args.self.now.head (needed_by c.args.self.now.head rs))
     (take_all c.loop-run.run-index c.args.runs.now (omega (arith, c.loop-run-test.false))) c.loop-run.invariant.sound
 
 pub returns-clause-reads : goal.returns-clause-reads

@@ -4,14 +4,14 @@ use Rattle.wah_logic.specs.Logic.{groups_and_rest}
 use Rattle.binning.specs.declared.against_bins.Three.TheVariants.{Unknown, Yes}
 use Rattle.binning.specs.declared.gathering.Bin.{Bin}
 use Rattle.bin_answers.specs.Bins.{rows_of_runs}
-use Rattle.bin_answers.specs.Fetched.{AreSound, Fetches, HasBins, needed_by}
+use Rattle.bin_answers.specs.Fetched.{AreFaultless, Fetches, HasBins, needed_by}
 use Rattle.bin_answers.proofs.open_index.OpenIndex.rows_of_all.Given as goal
 
 abbrev pub invariant-loop-run : goal.invariant-loop-run
 invariant-loop-run g l = record {
   unfailed : g.S.Store.faults l.store ≡ g.S.Store.faults l.fn.store;
   kept : SameFiles (g.S.Store.files l.fn.store) (g.S.Store.files l.store);
-  sound : AreSound (g.S.Store.files l.fn.store) l.self.head (needed_by l.self.head (take l.run-index l.runs));
+  sound : AreFaultless (g.S.Store.files l.fn.store) l.self.head (needed_by l.self.head (take l.run-index l.runs));
   reads : Fetches (g.S.Store.files l.fn.store) (g.S.Store.reads l.fn.store) (g.S.Store.reads l.store) l.self.head
       (needed_by l.self.head (take l.run-index l.runs)) (Unit {0});
   definite_long : All (λ v. length v ≡ length l.self.mask) l.found.definite.items;

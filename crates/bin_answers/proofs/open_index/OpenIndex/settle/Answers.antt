@@ -7,7 +7,7 @@ use Rattle.three_valued.specs.Rows.{answers_of}
 use Rattle.index_file.specs.declared.edge.Edge.{Edge}
 use Rattle.bin_answers.specs.BinRuns.{runs_of}
 use Rattle.bin_answers.specs.Bins.{edges_say, rows_of_runs}
-use Rattle.bin_answers.specs.Fetched.{AreSound, IsOutside, StopsIn, needed_by, needed_on, runs_on}
+use Rattle.bin_answers.specs.Fetched.{AreFaultless, IsOutside, StopsIn, needed_by, needed_on, runs_on}
 use Rattle.bin_answers.specs.declared.bin_runs.BinRun.{BinRun}
 use Rattle.bin_answers.specs.declared.fault.BinsFault.{BinsFault}
 use Rattle.bin_answers.specs.declared.fault.BinsFault.TheVariants.{OutOfMemory}
@@ -23,7 +23,7 @@ found_runs edges seen spans runs items e h k = e ∙ h ∙ ap (λ (l : List Edge
 pub returns-clause-exact : goal.returns-clause-exact
 returns-clause-exact g c =
     let same = found_runs c.args.self.now.head.bins _ c.args.spans.now _ _ c.deref.ensures.value c.in_ok-runs.ensures.runs c.as_slice.ensures in
-    subst (λ (rs : List BinRun). AreSound (g.S.Store.files c.args.store.now) c.args.self.now.head (needed_by c.args.self.now.head rs)) same c.in_ok-found.ensures.exact
+    subst (λ (rs : List BinRun). AreFaultless (g.S.Store.files c.args.store.now) c.args.self.now.head (needed_by c.args.self.now.head rs)) same c.in_ok-found.ensures.exact
 
 pub returns-clause-reads : goal.returns-clause-reads
 returns-clause-reads g c =

@@ -1,0 +1,6 @@
+use Rattle.std.proofs.Common.{◌≡◌, map}
+use Rattle.select_group.specs.Totals.{row_of_totals}
+use Rattle.select_group.proofs.grouper.group_rows.Given as goal
+
+abbrev pub invariant-loop-key : goal.invariant-loop-key
+invariant-loop-key l = l.rows.items ≡ map (λ e. row_of_totals l.items e.0 e.1) l.yielded

@@ -3,3 +3,4 @@ pub mod Stable
 pub mod TotalLemmas
 pub mod GroupLemmas
 pub mod Orders
+pub mod PrintedLemmas

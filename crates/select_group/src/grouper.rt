@@ -77,7 +77,8 @@ fn group_rows(
     groups.sort_unstable_keys()?;
     let mut rows = Vec::with_capacity(alloc, groups.len())?;
     for (key, totals) in groups {
-        rows.push(row_of_totals(items, key, totals.as_slice()))?;
+        let row = row_of_totals(items, key, totals.as_slice());
+        rows.push(row)?;
     }
     Ok(rows)
 }
@@ -138,7 +139,7 @@ impl Grouper {
         } else {
             rows
         };
-        sort_rows(alloc, pick.order.as_slice(), &mut rows)?;
+        sort_rows(pick.order.as_slice(), &mut rows)?;
         keep_first(&mut rows, pick.limit);
         Ok(rows)
     }

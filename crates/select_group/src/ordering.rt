@@ -10,7 +10,7 @@ use crate::cells::cell_cmp;
 use fb_types::Cell;
 use query_grammar::OrderPlace;
 use sqlite_items::Items;
-use std::alloc::{AllocError, Global};
+use std::alloc::AllocError;
 use std::cmp::Ordering;
 
 /// The cell at a place, or the one that stands for it where there is none.
@@ -52,15 +52,10 @@ fn row_cmp(order: &[OrderPlace], a: &[Cell], b: &[Cell]) -> Ordering
 }
 
 /// Puts rows in order; those that tie stay in theirs.
-pub(crate) fn sort_rows(
-    alloc: Global,
-    order: &[OrderPlace],
-    rows: &mut Vec<Items<Cell>>,
-) -> Result<(), AllocError>
+pub(crate) fn sort_rows(order: &[OrderPlace], rows: &mut Vec<Items<Cell>>) -> Result<(), AllocError>
     ensures { OnOk result (rows.new.items ≡ sorted (comes_before order.now) rows.old.items) }
 {
-    rows.as_mut_slice().sort_by(
-        alloc,
+    rows.sort_by(
         |a: &Items<Cell>, b: &Items<Cell>| -> Ordering
             ensures { result ≡ row_cmp order.entry.now a.now b.now }
         { row_cmp(order, a.as_slice(), b.as_slice()) },

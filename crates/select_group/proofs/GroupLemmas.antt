@@ -11,7 +11,7 @@ use Rattle.query_grammar.specs.declared.picking.PickItem.{PickItem}
 use Rattle.query_grammar.specs.declared.picking.Pick.{Pick}
 use Rattle.query_grammar.specs.Picks.{is_total}
 use Rattle.select_group.specs.Answer.{group_row, groups_of, has_key, key_of, total}
-use Rattle.select_group.specs.Gathered.{AreGroupsOf, CanBeAdded, Groups, totals, totals_at, totals_if}
+use Rattle.select_group.specs.Gathered.{AreGroupsOf, CanBeAdded, Gathered, Groups, Held, SameTotals, totals, totals_at, totals_if}
 use Rattle.select_group.specs.Keys.{cells_cmp-same, cells_cmp-total, cells_eq-equivalence, cells_eq-same}
 use Rattle.select_group.specs.Order.{rising_keys}
 use Rattle.select_group.specs.Rows.{cells_cmp, cells_eq, first_cell, number_cell, other_cells}
@@ -103,3 +103,67 @@ pub grows_gathered : (items : List PickItem) (cells : List Cell) (rows : List (L
     → AreGroupsOf items new (rows ++ cells ∷ [])
 grows_gathered items cells rows old new long gathered grows key =
     grows key ∙ (ap (λ o. cond (cells_eq (key_of items cells) key) (Some (grown items o (numbers_of items cells))) o) (gathered key) ∙ sym (group_push items rows cells key long))
+
+-- ---- what fits
+
+abbrev pub HasOneEach : List PickItem → List Cell × Totals → Type 0
+HasOneEach items e = (length e.0 ≡ length items) × (length e.1 ≡ length items)
+
+each_from : (items : List PickItem) (n : ℕ) (front back : List (List Cell × Totals)) → IsDistinct cells_eq (keys_of (front ++ back)) → AllFit items n (front ++ back) → AllByRecursion (HasOneEach items) back
+each_from items n front [] distinct fits = tt
+each_from items n front (e ∷ back) distinct fits =
+    let here = found_at (front ++ e ∷ back) (length front) e.0 e.1 distinct (get_at front e back) in
+    let one : FitsItems items n e.0 e.1 = subst (λ o. IfSome o (FitsItems items n e.0)) here (fits e.0) in
+    let cut : (front ++ e ∷ []) ++ back ≡ front ++ e ∷ back = append_assoc front (e ∷ []) back in
+    let rest = each_from items n (front ++ e ∷ []) back (subst (λ es. IsDistinct cells_eq (keys_of es)) (sym cut) distinct) (subst (λ es. AllFit items n es) (sym cut) fits) in
+    ((one.cells, one.one_each), rest)
+
+-- each entry of groups that fit, whatever their order, has a cell and a total for each item
+pub each_fits : (items : List PickItem) (n : ℕ) (old new : Groups) → IsDistinct cells_eq (keys_of new) → ((q : List Cell) → lookup (cells_eq q) new ≡ lookup (cells_eq q) old) → AllFit items n old → AllByRecursion (HasOneEach items) new
+each_fits items n old new distinct same fits = each_from items n [] new distinct (λ q. subst (λ o. IfSome o (FitsItems items n q)) (sym (same q)) (fits q))
+
+pub all_fit_more : (items more : List PickItem) (n m : ℕ) (groups : Groups) → more ≡ items → n ≤ m → AllFit items n groups → AllFit more m groups
+all_fit_more items more n m groups same less fits = subst (λ is. AllFit is m groups) (sym same) (λ q. fits_more n m items q (totals_at groups q) less (fits q))
+
+
+-- a map that took the grown totals at the record's key has one record more
+pub one_more_by : (items : List PickItem) (cells : List Cell) (old new : Groups) (ts : Totals) → ts ≡ grown items (totals_at old (key_of items cells)) (numbers_of items cells)
+    → ((q : List Cell) → totals_at new q ≡ cond (cells_eq (key_of items cells) q) (Some ts) (totals_at old q)) → OneMore items cells old new
+one_more_by items cells old new ts e updates q = updates q ∙ by (cells_eq (key_of items cells) q) refl
+  where
+    by : (b : Bool) → cells_eq (key_of items cells) q ≡ b → cond b (Some ts) (totals_at old q) ≡ cond b (Some (grown items (totals_at old q) (numbers_of items cells))) (totals_at old q)
+    by true t =
+        let same : key_of items cells ≡ q = cells_eq-same (key_of items cells) q t in
+        ap Some (subst (λ k. ts ≡ grown items (totals_at old k) (numbers_of items cells)) same e)
+    by false t = refl
+
+-- ---- what is gathered
+
+clash : (b : Bool) → b ≡ true → b ≡ false → ⊥
+clash b t f = let both : true ≡ false = sym t ∙ f in absurd cc
+
+-- a record more where there are no groups
+pub gathered_row : (old new : Held) (row : List Cell) → new.pick ≡ old.pick → new.added ≡ old.added + 1 → old.pick.grouped ≡ false → new.rows ≡ old.rows ++ row ∷ []
+    → (rows : List (List Cell)) → Gathered old rows → Gathered new (rows ++ row ∷ [])
+gathered_row old new row pick added plain more rows g = record {
+  added = added ∙ (ap (λ n. n + 1) g.added ∙ sym (length-append rows (row ∷ [])));
+  kept = λ is. more ∙ ap (λ rs. rs ++ row ∷ []) (g.kept plain);
+  groups = λ is. absurd (clash old.pick.grouped (ap (λ p. p.grouped) (sym pick) ∙ is) plain);
+}
+
+-- a record more in its group
+pub gathered_group : (old new : Held) (row : List Cell) → new.pick ≡ old.pick → new.added ≡ old.added + 1 → old.pick.grouped ≡ true → length row ≡ length old.pick.items → OneMore old.pick.items row old.groups new.groups
+    → (rows : List (List Cell)) → Gathered old rows → Gathered new (rows ++ row ∷ [])
+gathered_group old new row pick added grouped long more rows g = record {
+  added = added ∙ (ap (λ n. n + 1) g.added ∙ sym (length-append rows (row ∷ [])));
+  kept = λ is. absurd (clash old.pick.grouped grouped (ap (λ p. p.grouped) (sym pick) ∙ is));
+  groups = λ is. subst (λ p. AreGroupsOf p.items new.groups (rows ++ row ∷ [])) (sym pick) (grows_gathered old.pick.items row rows old.groups new.groups long (g.groups grouped) more);
+}
+
+-- no record more
+pub gathered_still : (old new : Held) → new.pick ≡ old.pick → new.added ≡ old.added → new.rows ≡ old.rows → SameTotals old.groups new.groups → (rows : List (List Cell)) → Gathered old rows → Gathered new rows
+gathered_still old new pick added kept same rows g = record {
+  added = added ∙ g.added;
+  kept = λ is. kept ∙ g.kept (ap (λ p. p.grouped) (sym pick) ∙ is);
+  groups = λ is. subst (λ p. AreGroupsOf p.items new.groups rows) (sym pick) (λ q. same q ∙ g.groups (ap (λ p. p.grouped) (sym pick) ∙ is) q);
+}

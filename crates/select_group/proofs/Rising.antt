@@ -113,6 +113,6 @@ module _ {K : Type 0} {R : K → K → Ordering} (o : IsTotalOrder R) (same : (x
       sorted_from_all_adjacent o ks d (λ k fits. by (get_or ks k d) (get_or ks (k + 1) d) (sorted k d (omega arith) fits) (apart_from_distinct eq ks k (k + 1) d distinct (omega arith) fits) (R (get_or ks k d) (get_or ks (k + 1) d)) refl)
     where
       by : (x y : K) → is_lt (R y x) ≡ false → eq x y ≡ false → (r : Ordering) → R x y ≡ r → R x y ≡ Less
-      by x y no apart Less e = e
-      by x y no apart Equal e = absurd (let t : eq x y ≡ true = ap is_eq e in let both : true ≡ false = sym t ∙ apart in cc)
-      by x y no apart Greater e = absurd (let t : is_lt (R y x) ≡ true = ap is_lt (turned x y e) in let both : true ≡ false = sym t ∙ no in cc)
+      by x y kept apart Less e = e
+      by x y kept apart Equal e = absurd (let t : eq x y ≡ true = ap is_eq e in let both : true ≡ false = sym t ∙ apart in cc)
+      by x y kept apart Greater e = absurd (let t : is_lt (R y x) ≡ true = ap is_lt (turned x y e) in let both : true ≡ false = sym t ∙ kept in cc)

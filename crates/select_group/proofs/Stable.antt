@@ -84,7 +84,9 @@ module _ {X : Type 0} (lt : X → X → Bool) (order : IsStrictWeakOrder lt) whe
   -- ---- what a sort gives is in order
 
   tail_sorted : (y : X) (ys : List X) → IsSortedBy lt (y ∷ ys) → IsSortedBy lt ys
-  tail_sorted y ys is = λ k d low fits. is (suc k) d (omega arith) (omega arith)
+  tail_sorted y ys is = λ k d low fits.
+      let next : suc k + 1 ≡ suc (k + 1) = omega arith in
+      subst (λ j. lt (get_or {A = X} (y ∷ ys) j d) (get_or ys k d) ≡ false) next (is (suc k) d (omega arith) (omega arith))
 
   in_order : (ys : List X) → IsSortedBy lt ys → InOrder ys
   in_order [] is = tt

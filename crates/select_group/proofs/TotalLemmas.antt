@@ -1,6 +1,6 @@
 -- Totals with one record more: step by step in place, and over whole groups.
 use Rattle.std.proofs.Common.{◌≡◌, ℕ, zero, suc, ◌+◌, ◌*◌, ◌<◌, ◌≤◌, Bool, true, false, cond, List, [], ◌∷◌, ◌++◌, length, length-append, map, take, drop, filter, Option, Some, None, ℤ, pos, ◌+ℤ◌, refl, sym, ap, subst, ◌∙◌, append-nil, arith}
-use Rattle.std.specs.Prelude.{slice_get, slice_set, IfSome, neg_ℤ, ◌≤ℤ◌, ◌^◌, fold, if◌then◌else◌}
+use Rattle.std.specs.Prelude.{int_lt, slice_get, slice_set, IfSome, neg_ℤ, ◌≤ℤ◌, ◌^◌, fold, if◌then◌else◌}
 use Rattle.std.specs.Int.{int_min, int_max}
 use Rattle.std.specs.List.{AllByRecursion, filter_map}
 use Rattle.std.specs.Ordering.{eq_by_cmp}
@@ -228,10 +228,18 @@ either f P step (Some t) None a b = a
 either f P step (Some t) (Some n) a b = step t n a b
 
 min_within : (n : ℕ) (a b : ℤ) → IsWithin n a → IsWithin n b → IsWithin n (int_min a b)
-min_within n a b p q = (omega (arith, ints), omega (arith, ints))
+min_within n a b p q = by (int_lt b a)
+  where
+    by : (less : Bool) → IsWithin n (cond less b a)
+    by true = q
+    by false = p
 
 max_within : (n : ℕ) (a b : ℤ) → IsWithin n a → IsWithin n b → IsWithin n (int_max a b)
-max_within n a b p q = (omega (arith, ints), omega (arith, ints))
+max_within n a b p q = by (int_lt b a)
+  where
+    by : (less : Bool) → IsWithin n (cond less a b)
+    by true = p
+    by false = q
 
 small_within : (n : ℕ) (z : ℤ) → IsSmall z → IsWithin (n + 1) z
 small_within n z small = (omega (arith, ints), omega (arith, ints))

@@ -55,7 +55,7 @@ fn add_to_group(
     ensures kept { OnErr result (SameTotals groups.old.entries groups.new.entries) }
 {
     take_numbers(items, &cells, numbers)?;
-    let key = key_of(items, cells);
+    let key = key_of(items, Items::from_vec(cells));
     if let Some(totals) = groups.get_mut(&key) {
         add_numbers(items, totals, numbers.as_slice());
         return Ok(());

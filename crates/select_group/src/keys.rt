@@ -6,6 +6,7 @@ ghost use Rattle.select_group.specs.Rows.{cells_cmp, cells_eq};
 
 use crate::cells::cells_cmp;
 use fb_types::Cell;
+use sqlite_items::Items;
 use std::cmp::Ordering;
 use std::hash::{Hash, Hasher};
 use std::marker::Model;
@@ -13,7 +14,7 @@ use std::marker::Model;
 /// What makes a group: a cell for each item, null where the item is over the group. Seen as the list of them.
 #[derive(Drop)]
 pub struct GroupKey {
-    cells: Vec<Cell>,
+    cells: Items<Cell>,
 }
 
 impl Model for GroupKey {
@@ -22,18 +23,18 @@ impl Model for GroupKey {
 
     ghost Value = { List Cell };
 
-    ghost view = { λ k. k.cells.items };
+    ghost view = { λ k. k.cells };
 }
 
 impl GroupKey {
-    pub(crate) fn from_cells(cells: Vec<Cell>) -> GroupKey
-        ensures { result ≡ cells.items }
+    pub(crate) fn from_cells(cells: Items<Cell>) -> GroupKey
+        ensures { result ≡ cells }
     {
         GroupKey { cells }
     }
 
-    pub(crate) fn into_cells(self) -> Vec<Cell>
-        ensures { result.items ≡ self }
+    pub(crate) fn into_cells(self) -> Items<Cell>
+        ensures { result ≡ self }
     {
         self.cells
     }

@@ -44,8 +44,9 @@ pub fn print_rows(alloc: Global, rows: &[Items<Cell>]) -> Result<Vec<u8>, AllocE
     let mut buffer = Buffer::new();
     for row in rows {
         fill(&mut line, &mut buffer, row.as_slice())?;
-        if writer.write_byte_record(&line).is_err() {
-            return Err(AllocError);
+        match writer.write_byte_record(&line) {
+            Ok(()) => {}
+            Err(_) => return Err(AllocError),
         }
     }
     match writer.into_inner() {

@@ -1,8 +1,9 @@
 //! The totals of a group, one for each item.
 
-ghost use Rattle.std.specs.Prelude.{◌≡◌, ◌^◌, ◌+ℤ◌, length, IfOk, IfSome, OnOk};
+ghost use Rattle.std.specs.Prelude.{◌≡◌, ◌<◌, ◌^◌, ◌+ℤ◌, if◌then◌else◌, length, slice_index_or, slice_set, None, IfOk, IfSome, OnOk};
 ghost use Rattle.std.specs.Int.{int_max, int_min};
 ghost use Rattle.std.specs.List.{AllByRecursion};
+ghost use Rattle.fb_types.specs.Slots.{whole_in};
 ghost use Rattle.query_grammar.specs.Picks.{is_total};
 ghost use Rattle.select_group.specs.Answer.{key_of};
 ghost use Rattle.select_group.specs.Gathered.{IsSmall};
@@ -121,6 +122,13 @@ pub(crate) fn first_totals(
     Ok(Items::from_vec(totals))
 }
 
+/// The number of a cell in the place of an item that is over a group.
+fn number_of(item: PickItem, cell: &Cell) -> Option<i128>
+    ensures { result ≡ (if is_total item then whole_in cell.now else None) }
+{
+    if is_total(item) { whole_in(cell) } else { None }
+}
+
 /// Puts the numbers of a record into `numbers`, in the places of the items that are over a group.
 pub(crate) fn take_numbers(
     items: &[PickItem],
@@ -132,26 +140,29 @@ pub(crate) fn take_numbers(
 {
     numbers.clear();
     for (place, item) in items.iter().enumerate() {
-        let number = if is_total(*item) {
-            whole_in(&cells[place])
-        } else {
-            None
-        };
-        numbers.push(number)?;
+        numbers.push(number_of(*item, &cells[place]))?;
     }
     Ok(())
 }
 
+/// Puts a cell into the place of an item that is over a group; that of a plain item stays.
+fn set_total(item: PickItem, cells: &mut Items<Cell>, place: usize, cell: Cell)
+    requires { place < length cells.old }
+    ensures { cells.new ≡ slice_set cells.old place (if is_total item then cell else slice_index_or cells.old place Cell.Null) }
+{
+    if is_total(item) {
+        cells.set(place, cell);
+    }
+}
+
 /// The key of the group that a record is of.
-pub(crate) fn key_of(items: &[PickItem], cells: Vec<Cell>) -> GroupKey
-    requires { length cells.items ≡ length items.now }
-    ensures { result ≡ key_of items.now cells.items }
+pub(crate) fn key_of(items: &[PickItem], cells: Items<Cell>) -> GroupKey
+    requires { length cells ≡ length items.now }
+    ensures { result ≡ key_of items.now cells }
 {
     let mut cells = cells;
     for (place, item) in items.iter().enumerate() {
-        if is_total(*item) {
-            cells[place] = Cell::Null;
-        }
+        set_total(*item, &mut cells, place, Cell::Null);
     }
     GroupKey::from_cells(cells)
 }
@@ -168,9 +179,7 @@ pub(crate) fn row_of_totals(
 {
     let mut cells = key.into_cells();
     for (place, item) in items.iter().enumerate() {
-        if is_total(*item) {
-            cells[place] = number_cell(totals[place]);
-        }
+        set_total(*item, &mut cells, place, number_cell(totals[place]));
     }
-    Items::from_vec(cells)
+    cells
 }

@@ -4,6 +4,6 @@ use Rattle.select_group.proofs.totals.key_of.Given as goal
 
 abbrev pub invariant-loop-place : goal.invariant-loop-place
 invariant-loop-place l = record {
-  so_far : take l.place l.cells.items ++ key_of (drop l.place l.items) (drop l.place l.cells.items) ≡ key_of l.items l.fn.cells.items;
-  long : length l.cells.items ≡ length l.items;
+  so_far : take l.place l.cells ++ key_of (drop l.place l.items) (drop l.place l.cells) ≡ key_of l.items l.fn.cells;
+  long : length l.cells ≡ length l.items;
 }

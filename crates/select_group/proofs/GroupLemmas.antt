@@ -1,5 +1,5 @@
 -- The groups of records: grown by one record, and their rows in order.
-use Rattle.std.proofs.Common.{◌≡◌, ℕ, zero, suc, ◌+◌, ◌<◌, ◌≤◌, Bool, true, false, cond, ◌||◌, List, [], ◌∷◌, ◌++◌, length, length-append, map, filter, Option, Some, None, is_some, ℤ, refl, sym, ap, subst, ◌∙◌, append_assoc, arith}
+use Rattle.std.proofs.Common.{◌≡◌, ℕ, zero, suc, ◌+◌, ◌<◌, ◌≤◌, Bool, true, false, cond, ◌||◌, List, [], ◌∷◌, ◌++◌, length, length-append, map, filter, Option, Some, None, is_some, ℤ, refl, sym, ap, subst, ◌∙◌, append-nil, append_assoc, arith}
 use Rattle.std.specs.Prelude.{slice_get, IfSome}
 use Rattle.std.specs.List.{AllByRecursion, IsDistinct, list_any}
 use Rattle.std.specs.List.Sorted.{IsSorted, IsStrictlySortedBy}
@@ -15,7 +15,7 @@ use Rattle.select_group.specs.Gathered.{AreGroupsOf, CanBeAdded, Gathered, Group
 use Rattle.select_group.specs.Keys.{cells_cmp-same, cells_cmp-total, cells_eq-equivalence, cells_eq-same}
 use Rattle.select_group.specs.Order.{rising_keys}
 use Rattle.select_group.specs.Rows.{cells_cmp, cells_eq, first_cell, number_cell, other_cells}
-use Rattle.select_group.specs.Totals.{AllFit, FitsItems, OneMore, grown, numbers_of, row_of_totals}
+use Rattle.select_group.specs.Totals.{AllFit, FitsItems, GrowsAt, HasOneEach, OneMore, grown, numbers_of, row_of_totals, rows_of}
 use Rattle.select_group.proofs.Rising.{insert_members, insert_rises, rises_from_sorted, rising_same}
 use Rattle.select_group.proofs.TotalLemmas.{fits_more, group_push, grown_fits, length-key_of}
 
@@ -69,7 +69,7 @@ pub found_at : (es : List (List Cell × Totals)) (i : ℕ) (key : List Cell) (ts
 found_at es i key ts distinct at = lookup_from_place cells_eq-equivalence es i key ts distinct at
 
 rows_from : (items : List PickItem) (rows : List (List Cell)) (front back : List (List Cell × Totals)) → IsDistinct cells_eq (keys_of (front ++ back)) → ((q : List Cell) → lookup (cells_eq q) (front ++ back) ≡ totals_if items (filter (has_key items q) rows))
-    → map (λ e. row_of_totals items e.0 e.1) back ≡ map (row_of items rows) (keys_of back)
+    → rows_of items back ≡ map (row_of items rows) (keys_of back)
 rows_from items rows front [] distinct found = refl
 rows_from items rows front (e ∷ back) distinct found =
     let here = found_at (front ++ e ∷ back) (length front) e.0 e.1 distinct (get_at front e back) in
@@ -80,7 +80,7 @@ rows_from items rows front (e ∷ back) distinct found =
 
 -- entries in order of their keys are the groups
 pub groups_told : (items : List PickItem) (rows : List (List Cell)) (es : List (List Cell × Totals)) → IsSorted cells_cmp (keys_of es) → IsDistinct cells_eq (keys_of es) → ((q : List Cell) → lookup (cells_eq q) es ≡ totals_if items (filter (has_key items q) rows))
-    → map (λ e. row_of_totals items e.0 e.1) es ≡ groups_of items rows
+    → rows_of items es ≡ groups_of items rows
 groups_told items rows es sorted distinct found =
     let rises = rises_from_sorted cells_cmp-total cells_cmp-same (keys_of es) [] sorted distinct in
     let keys : keys_of es ≡ rising_keys (map (key_of items) rows) =
@@ -106,9 +106,6 @@ grows_gathered items cells rows old new long gathered grows key =
 
 -- ---- what fits
 
-abbrev pub HasOneEach : List PickItem → List Cell × Totals → Type 0
-HasOneEach items e = (length e.0 ≡ length items) × (length e.1 ≡ length items)
-
 each_from : (items : List PickItem) (n : ℕ) (front back : List (List Cell × Totals)) → IsDistinct cells_eq (keys_of (front ++ back)) → AllFit items n (front ++ back) → AllByRecursion (HasOneEach items) back
 each_from items n front [] distinct fits = tt
 each_from items n front (e ∷ back) distinct fits =
@@ -126,16 +123,25 @@ pub all_fit_more : (items more : List PickItem) (n m : ℕ) (groups : Groups) �
 all_fit_more items more n m groups same less fits = subst (λ is. AllFit is m groups) (sym same) (λ q. fits_more n m items q (totals_at groups q) less (fits q))
 
 
--- a map that took the grown totals at the record's key has one record more
-pub one_more_by : (items : List PickItem) (cells : List Cell) (old new : Groups) (ts : Totals) → ts ≡ grown items (totals_at old (key_of items cells)) (numbers_of items cells)
-    → ((q : List Cell) → totals_at new q ≡ cond (cells_eq (key_of items cells) q) (Some ts) (totals_at old q)) → OneMore items cells old new
-one_more_by items cells old new ts e updates q = updates q ∙ by (cells_eq (key_of items cells) q) refl
+-- grown by the record's numbers at the record's key, groups have one record more
+pub one_more_by : (items : List PickItem) (cells : List Cell) (numbers : List (Option ℤ)) (old new : Groups) → numbers ≡ numbers_of items cells → GrowsAt items (key_of items cells) numbers old new → OneMore items cells old new
+one_more_by items cells numbers old new e grows q = grows q ∙ by (cells_eq (key_of items cells) q) refl
   where
-    by : (b : Bool) → cells_eq (key_of items cells) q ≡ b → cond b (Some ts) (totals_at old q) ≡ cond b (Some (grown items (totals_at old q) (numbers_of items cells))) (totals_at old q)
+    by : (b : Bool) → cells_eq (key_of items cells) q ≡ b → cond b (Some (grown items (totals_at old (key_of items cells)) numbers)) (totals_at old q) ≡ cond b (Some (grown items (totals_at old q) (numbers_of items cells))) (totals_at old q)
     by true t =
         let same : key_of items cells ≡ q = cells_eq-same (key_of items cells) q t in
-        ap Some (subst (λ k. ts ≡ grown items (totals_at old k) (numbers_of items cells)) same e)
+        ap (λ k. Some (grown items (totals_at old k) numbers)) same ∙ ap (λ ns. Some (grown items (totals_at old q) ns)) e
     by false t = refl
+
+-- ---- rows one after the other
+
+pub step_rows : (items : List PickItem) (done more : List (List Cell)) (left rest : Groups) (key : List Cell) (ts : Totals) (row : List Cell) (all : List (List Cell)) → left ≡ (key, ts) ∷ rest → more ≡ done ++ row ∷ [] → row ≡ row_of_totals items key ts
+    → done ++ rows_of items left ≡ all → more ++ rows_of items rest ≡ all
+step_rows items done more left rest key ts row all steps pushed is e =
+    ap (λ rs. rs ++ rows_of items rest) pushed ∙ (append_assoc done (row ∷ []) (rows_of items rest) ∙ (ap (λ r. done ++ r ∷ rows_of items rest) is ∙ (ap (λ es. done ++ rows_of items es) (sym steps) ∙ e)))
+
+pub end_rows : (items : List PickItem) (done : List (List Cell)) (left : Groups) (all : List (List Cell)) → left ≡ [] → done ++ rows_of items left ≡ all → done ≡ all
+end_rows items done left all none e = sym (append-nil done) ∙ (ap (λ es. done ++ rows_of items es) (sym none) ∙ e)
 
 -- ---- what is gathered
 

@@ -52,6 +52,11 @@ abbrev pub grown : List PickItem → Option (List (Option ℤ)) → List (Option
 grown items None numbers = first_totals items numbers
 grown items (Some ts) numbers = totals_with items ts numbers
 
+-- the totals under this key grown by these numbers, and those under each other key as they were
+abbrev pub GrowsAt : List PickItem → List Cell → List (Option ℤ) → Groups → Groups → Type 0
+GrowsAt items key numbers old new =
+    (q : List Cell) → totals_at new q ≡ (if cells_eq key q then Some (grown items (totals_at old key) numbers) else totals_at old q)
+
 -- the totals of the record's group with it, and of each other group as they were
 abbrev pub OneMore : List PickItem → List Cell → Groups → Groups → Type 0
 OneMore items cells old new =
@@ -64,7 +69,16 @@ row_of_totals (i ∷ items) [] ts = []
 row_of_totals (i ∷ items) (c ∷ key) [] = []
 row_of_totals (i ∷ items) (c ∷ key) (t ∷ ts) = (if is_total i then number_cell t else c) ∷ row_of_totals items key ts
 
+-- the rows of groups, in their order
+abbrev pub rows_of : List PickItem → Groups → List (List Cell)
+rows_of items [] = []
+rows_of items (g ∷ groups) = row_of_totals items g.0 g.1 ∷ rows_of items groups
+
 -- ---- sizes
+
+-- a cell in the key and a total for each item
+abbrev pub HasOneEach : List PickItem → List Cell × List (Option ℤ) → Type 0
+HasOneEach items g = (length g.0 ≡ length items) × (length g.1 ≡ length items)
 
 -- a total of n records, whose numbers lie between -2^64 and 2^64
 abbrev pub IsWithin : ℕ → ℤ → Type 0

@@ -1,10 +1,11 @@
 //! Records gathered into the rows of an answer.
 
-ghost use Rattle.std.specs.Prelude.{◌≡◌, ◌+◌, ◌<◌, ◌^◌, ◌++◌, ◌∷◌, [], List, IfOk, OnOk, OnErr};
+ghost use Rattle.std.specs.Prelude.{◌≡◌, ◌+◌, ◌<◌, ◌^◌, ◌++◌, ◌∷◌, [], List, length, IfOk, IfSome, OnOk, OnErr};
+ghost use Rattle.std.specs.List.{AllByRecursion};
 ghost use Rattle.fb_types.specs.declared.cells.Cell.{Cell};
 ghost use Rattle.select_group.specs.Answer.{answer_of, groups_of};
-ghost use Rattle.select_group.specs.Gathered.{AreGroupsOf, CanBeAdded, Gathered, SameTotals};
-ghost use Rattle.select_group.specs.Totals.{AllFit, OneMore};
+ghost use Rattle.select_group.specs.Gathered.{AreGroupsOf, CanBeAdded, Gathered, IsSmall, SameTotals};
+ghost use Rattle.select_group.specs.Totals.{AllFit, GrowsAt, HasOneEach, OneMore, rows_of};
 
 use crate::keys::GroupKey;
 use crate::ordering::{keep_first, sort_rows};
@@ -41,6 +42,28 @@ impl Model for Grouper {
     ghost invariant = { λ g. AllFit g.pick.items g.added g.groups.entries × (g.added ≤ 2 ^ 32) };
 }
 
+/// Adds numbers to the totals of the group with this key. A refused call leaves the groups as they were.
+fn put_numbers(
+    alloc: Global,
+    groups: &mut IndexMap<GroupKey, Totals>,
+    items: &[PickItem],
+    key: GroupKey,
+    numbers: &[Option<i128>],
+) -> Result<(), AllocError>
+    requires numbers { length numbers.now ≡ length items.now }
+    requires small { AllByRecursion (λ n. IfSome n IsSmall) numbers.now }
+    requires fits { AllFit items.now (2 ^ 32) groups.old.entries }
+    ensures grown { OnOk result (GrowsAt items.now key numbers.now groups.old.entries groups.new.entries) }
+    ensures kept { OnErr result (SameTotals groups.old.entries groups.new.entries) }
+{
+    if let Some(totals) = groups.get_mut(&key) {
+        add_numbers(items, totals, numbers);
+        return Ok(());
+    }
+    groups.insert(key, first_totals(alloc, items, numbers)?)?;
+    Ok(())
+}
+
 /// Adds a record to its group. A refused call leaves the groups as they were.
 fn add_to_group(
     alloc: Global,
@@ -56,12 +79,24 @@ fn add_to_group(
 {
     take_numbers(items, &cells, numbers)?;
     let key = key_of(items, Items::from_vec(cells));
-    if let Some(totals) = groups.get_mut(&key) {
-        add_numbers(items, totals, numbers.as_slice());
-        return Ok(());
+    put_numbers(alloc, groups, items, key, numbers.as_slice())
+}
+
+/// The rows of groups, in their order.
+fn rows_of(
+    alloc: Global,
+    groups: IndexMap<GroupKey, Totals>,
+    items: &[PickItem],
+) -> Result<Vec<Items<Cell>>, AllocError>
+    requires { AllByRecursion (HasOneEach items.now) groups.entries }
+    ensures { IfOk result (λ rows. rows.items ≡ rows_of items.now groups.entries) }
+{
+    let mut rows = Vec::with_capacity(alloc, groups.len())?;
+    for (key, totals) in groups {
+        let row = row_of_totals(items, key, totals.as_slice());
+        rows.push(row)?;
     }
-    groups.insert(key, first_totals(alloc, items, numbers.as_slice())?)?;
-    Ok(())
+    Ok(rows)
 }
 
 /// The rows of groups, in rising order of key.
@@ -75,12 +110,7 @@ fn group_rows(
 {
     let mut groups = groups;
     groups.sort_unstable_keys()?;
-    let mut rows = Vec::with_capacity(alloc, groups.len())?;
-    for (key, totals) in groups {
-        let row = row_of_totals(items, key, totals.as_slice());
-        rows.push(row)?;
-    }
-    Ok(rows)
+    rows_of(alloc, groups, items)
 }
 
 impl Grouper {
@@ -115,9 +145,10 @@ impl Grouper {
             let alloc = self.alloc;
             let items = self.pick.items.as_slice();
             add_to_group(alloc, &mut self.groups, &mut self.numbers, items, cells)?;
-        } else {
-            self.rows.push(Items::from_vec(cells))?;
+            self.added += 1;
+            return Ok(());
         }
+        self.rows.push(Items::from_vec(cells))?;
         self.added += 1;
         Ok(())
     }

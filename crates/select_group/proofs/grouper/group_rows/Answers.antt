@@ -1,16 +1,12 @@
+use Rattle.std.proofs.Common.{◌≡◌, ◌∙◌}
+use Rattle.std.proofs.lemmas.Result.{IfOk-weaker}
+use Rattle.select_group.proofs.GroupLemmas.{each_fits, groups_told}
 use Rattle.select_group.proofs.grouper.group_rows.Goals as goal
 
-pub loop-key-init : goal.loop-key-init
-loop-key-init c = ?
-
-pub row_of_totals-row-requires-clause-key : goal.row_of_totals-row-requires-clause-key
-row_of_totals-row-requires-clause-key c = ?
-
-pub row_of_totals-row-requires-clause-totals : goal.row_of_totals-row-requires-clause-totals
-row_of_totals-row-requires-clause-totals c = ?
-
-pub loop-key-preserved : goal.loop-key-preserved
-loop-key-preserved c = ?
+pub rows_of-requires : goal.rows_of-requires
+rows_of-requires c =
+    let sorted = c.in_ok-sort_unstable_keys.ensures in
+    each_fits c.args.items.now 4294967296 c.args.groups.entries c.sort_unstable_keys.new.self.entries sorted.unique sorted.reordered.2 c.requires.fits
 
 pub returns : goal.returns
 returns c = ?

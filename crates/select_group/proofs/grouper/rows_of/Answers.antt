@@ -1,7 +1,7 @@
 use Rattle.std.proofs.Common.{◌≡◌, [], ap, length, refl, subst, sym, ◌∙◌}
 use Rattle.std.specs.List.{AllByRecursion}
-use Rattle.select_group.specs.Totals.{HasOneEach, row_of_totals}
-use Rattle.select_group.proofs.GroupLemmas.{step_rows}
+use Rattle.select_group.specs.Totals.{HasOneEach, row_of_totals, rows_of}
+use Rattle.select_group.proofs.GroupLemmas.{end_rows, step_rows}
 use Rattle.select_group.proofs.grouper.rows_of.Goals as goal
 
 pub loop-key-init : goal.loop-key-init
@@ -22,4 +22,4 @@ loop-key-preserved c = record {
 }
 
 pub returns : goal.returns
-returns c = ?
+returns c = end_rows c.args.items.now c.loop-key.rows.items c.loop-key.key-iterator _ c.in-None.ensures.steps.0 c.loop-key.invariant.so_far ∙ ap (rows_of c.args.items.now) c.into_iter-key-iterator.ensures.into_iter_gives.0

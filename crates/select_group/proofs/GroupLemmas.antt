@@ -122,7 +122,6 @@ each_fits items n old new distinct same fits = each_from items n [] new distinct
 pub all_fit_more : (items more : List PickItem) (n m : ℕ) (groups : Groups) → more ≡ items → n ≤ m → AllFit items n groups → AllFit more m groups
 all_fit_more items more n m groups same less fits = subst (λ is. AllFit is m groups) (sym same) (λ q. fits_more n m items q (totals_at groups q) less (fits q))
 
-
 -- grown by the record's numbers at the record's key, groups have one record more
 pub one_more_by : (items : List PickItem) (cells : List Cell) (numbers : List (Option ℤ)) (old new : Groups) → numbers ≡ numbers_of items cells → GrowsAt items (key_of items cells) numbers old new → OneMore items cells old new
 one_more_by items cells numbers old new e grows q = grows q ∙ by (cells_eq (key_of items cells) q) refl

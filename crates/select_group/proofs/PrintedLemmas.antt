@@ -12,3 +12,8 @@ rows_push (r ∷ rows) row =
 
 pub text_grows : (rows : List (List Cell)) (i : ℕ) (d : List Cell) → i < length rows → rows_text (take (i + 1) rows) ≡ rows_text (take i rows) ++ row_text default_writer (map cell_text (get_or rows i d))
 text_grows rows i d less = ap rows_text (take_more rows i d less) ∙ rows_push (take i rows) (get_or rows i d)
+
+pub text_joins : (rows more : List (List Cell)) → rows_text (rows ++ more) ≡ rows_text rows ++ rows_text more
+text_joins [] more = refl
+text_joins (r ∷ rows) more =
+    ap (λ text. row_text default_writer (map cell_text r) ++ text) (text_joins rows more) ∙ sym (append_assoc (row_text default_writer (map cell_text r)) (rows_text rows) (rows_text more))

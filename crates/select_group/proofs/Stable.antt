@@ -77,7 +77,7 @@ module _ {X : Type 0} (lt : X → X → Bool) (order : IsStrictWeakOrder lt) whe
   sorted_keeps [] = tt
   sorted_keeps (x ∷ xs) = put_keeps x (sorted lt xs) (sorted_keeps xs)
 
-  sorted_filter : (a : X) (xs : List X) → filter (ties lt a) (sorted lt xs) ≡ filter (ties lt a) xs
+  pub sorted_filter : (a : X) (xs : List X) → filter (ties lt a) (sorted lt xs) ≡ filter (ties lt a) xs
   sorted_filter a [] = refl
   sorted_filter a (x ∷ xs) = put_filter a x (sorted lt xs) ∙ ap (λ zs. cond (ties lt a x) (x ∷ zs) zs) (sorted_filter a xs)
 
@@ -133,3 +133,14 @@ module _ {X : Type 0} (lt : X → X → Bool) (order : IsStrictWeakOrder lt) whe
 
   pub stable_is : (xs ys : List X) → IsSortedBy lt ys → IsStableBy lt xs ys → ys ≡ sorted lt xs
   stable_is xs ys is stays = same_order ys (sorted lt xs) (in_order ys is) (sorted_keeps xs) (λ a. stays a ∙ sym (sorted_filter a xs))
+
+  sorted_by : (ys : List X) → InOrder ys → IsSortedBy lt ys
+  sorted_by [] is k d low fits = absurd (omega arith)
+  sorted_by (y ∷ []) is k d low fits = absurd (omega arith)
+  sorted_by (y ∷ z ∷ ys) is zero d low fits = is.0.0
+  sorted_by (y ∷ z ∷ ys) is (suc k) d low fits =
+      let next : suc (k + 1) ≡ suc k + 1 = omega arith in
+      subst (λ j. lt (get_or {A = X} (y ∷ z ∷ ys) j d) (get_or {A = X} (z ∷ ys) k d) ≡ false) next (sorted_by (z ∷ ys) is.1 k d (omega arith) (omega arith))
+
+  pub sorted_in_order : (xs : List X) → IsSortedBy lt (sorted lt xs)
+  sorted_in_order xs = sorted_by (sorted lt xs) (sorted_keeps xs)

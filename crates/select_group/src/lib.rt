@@ -5,6 +5,7 @@
 mod cells;
 mod grouper;
 mod keys;
+mod laws;
 mod ordering;
 mod printing;
 #[cfg(test)]
@@ -12,4 +13,5 @@ mod tests;
 mod totals;
 
 pub use grouper::Grouper;
+pub use laws::{the_keys_of_groups, the_order_of_rows, the_text_of_blocks};
 pub use printing::print_rows;

@@ -1,8 +1,13 @@
+ghost use Rattle.std.specs.Prelude.{IsTrue};
+ghost use Rattle.std.specs.List.{AllByRecursion};
+ghost use Rattle.select_group.specs.Gathered.{number_is_small};
+
 use crate::{Grouper, print_rows};
 use fb_types::{Cell, Label, parse_schema};
-use query_grammar::{parse_query, resolve_select};
+use query_grammar::{Pick, parse_query, resolve_select};
 use sqlite_items::Items;
 use std::alloc::{AllocError, Global};
+use std::process::Abort;
 use std::test::Fail;
 
 /// A cell: `-` is null, digits are a number, and the rest is a word.
@@ -16,9 +21,62 @@ fn cell(alloc: Global, text: &str) -> Result<Cell, AllocError> {
     }
 }
 
+/// Whether a number in the cell is between -2^63 and 2^64 - 1.
+fn is_small(cell: &Cell) -> bool
+    ensures { IsTrue result → number_is_small cell.now }
+{
+    match cell {
+        Cell::Whole(n) => -9223372036854775808 <= *n && *n <= 18446744073709551615,
+        Cell::Null => true,
+        Cell::Word(_) => true,
+    }
+}
+
+fn are_small(cells: &[Cell]) -> bool
+    ensures { IsTrue result → AllByRecursion number_is_small cells.now }
+{
+    match cells {
+        [] => true,
+        [cell, rest @ ..] => is_small(cell) && are_small(rest),
+    }
+}
+
+/// The cells of a record.
+fn cells_of(alloc: Global, record: &str) -> Result<Vec<Cell>, AllocError> {
+    let mut cells = Vec::new(alloc);
+    for text in record.split(' ') {
+        cells.push(cell(alloc, text)?)?;
+    }
+    Ok(cells)
+}
+
+/// The rows of what is selected over records, at most 100 of them.
+fn rows_of(
+    rt: &impl Abort,
+    alloc: Global,
+    pick: Pick,
+    records: &[&str],
+) -> Result<Vec<Items<Cell>>, AllocError> {
+    let items = pick.items.len();
+    let mut grouper = Grouper::make(alloc, pick);
+    assert!(rt; records.len() <= 100);
+    for record in records {
+        let cells = cells_of(alloc, record)?;
+        assert!(rt; cells.len() == items);
+        assert!(rt; are_small(&cells));
+        grouper.add(cells)?;
+    }
+    grouper.finish()
+}
+
 /// The text of a query's answer over records of the schema's cells, which stand with blanks between, as they are given
 /// to the grouper.
-fn answer(alloc: Global, query: &str, records: &[&str]) -> Result<Vec<u8>, AllocError> {
+fn answer(
+    rt: &impl Abort,
+    alloc: Global,
+    query: &str,
+    records: &[&str],
+) -> Result<Vec<u8>, AllocError> {
     let Ok(schema) = parse_schema(alloc, "a:int,b:category,c:long") else {
         return Vec::from_slice(alloc, b"no schema");
     };
@@ -28,15 +86,8 @@ fn answer(alloc: Global, query: &str, records: &[&str]) -> Result<Vec<u8>, Alloc
     let Ok(Some(pick)) = resolve_select(alloc, &query, &schema) else {
         return Vec::from_slice(alloc, b"no pick");
     };
-    let mut grouper = Grouper::make(alloc, pick);
-    for record in records {
-        let mut cells = Vec::new(alloc);
-        for text in record.split(' ') {
-            cells.push(cell(alloc, text)?)?;
-        }
-        grouper.add(cells)?;
-    }
-    print_rows(alloc, &grouper.finish()?)
+    let rows = rows_of(rt, alloc, pick, records)?;
+    print_rows(alloc, &rows)
 }
 
 #[test]
@@ -95,7 +146,7 @@ fn groups_rows_and_orders(rt: HostRuntime) -> Result<(), Fail> {
             "1,x,1,1\n5,x,5,5\n1,y,1,1\n",
         ),
     ] {
-        let found = answer(rt.alloc(), query, records)?;
+        let found = answer(&rt, rt.alloc(), query, records)?;
         assert!(rt; found.as_slice() == want.as_bytes(), "{query}");
     }
     Ok(())
@@ -104,10 +155,10 @@ fn groups_rows_and_orders(rt: HostRuntime) -> Result<(), Fail> {
 #[test]
 fn sums_pass_64_bits(rt: HostRuntime) -> Result<(), Fail> {
     let most = "18446744073709551615";
-    let found = answer(rt.alloc(), "select sum(c)", &[most, most, most])?;
+    let found = answer(&rt, rt.alloc(), "select sum(c)", &[most, most, most])?;
     assert!(rt; found.as_slice() == "55340232221128654845\n".as_bytes());
     let least = "-9223372036854775808";
-    let found = answer(rt.alloc(), "select sum(c)", &[least, least])?;
+    let found = answer(&rt, rt.alloc(), "select sum(c)", &[least, least])?;
     assert!(rt; found.as_slice() == "-18446744073709551616\n".as_bytes());
     Ok(())
 }

@@ -1,0 +1,7 @@
+pub mod RangeLemmas
+pub mod BinLemmas
+pub mod CodeLemmas
+pub mod ColumnLemmas
+pub mod UnionLemmas
+pub mod KnownLemmas
+pub mod PlanLemmas

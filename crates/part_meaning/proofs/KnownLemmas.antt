@@ -70,9 +70,6 @@ there_present (Word word) b h = h
 -- ---- what a bin says of its rows
 
 module _ (column : PartColumn) (row : ℕ) (is : IsColumn column) where
-  words : List (List ℕ)
-  words = dictionary_of column.cells
-
   absent_no : (says : Bin → Three) → is_present (cell_of_row column row) ≡ false → said_by says (bin_at row (bins_in column)) ≡ No
   absent_no says absent = ap (said_by says) (no_row column row is absent)
 
@@ -230,7 +227,7 @@ rows_counted : (part : Partition) (planned : Plan)
 rows_counted part planned =
     counted (λ row. is_true (λ condition. plan_atom_holds condition (record_of part row)) planned) (plan_holds planned) 0 part.records
     (λ i. let none : 0 + i ≡ i = omega arith in
-        ap (λ row. is_true (λ condition. plan_atom_holds condition (record_of part row)) planned) none ∙ record_truth planned (record_of part i))
+    ap (λ row. is_true (λ condition. plan_atom_holds condition (record_of part row)) planned) none ∙ record_truth planned (record_of part i))
 
 pub definite_held : (schema : List Column) (part : Partition) (planned : Plan) → IsPartition schema part → FitsSchema schema planned
     → definite_in schema part planned ≤ ones (rows_that_hold planned part)

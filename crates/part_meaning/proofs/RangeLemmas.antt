@@ -90,9 +90,9 @@ module _ (test : ℤ → Bool) (first : ℤ) where
   each_of a (suc n) k all from below =
       either (nat_lt a k)
       (λ t. let later = ltb-true a k t in
-          each_of (a + 1) n k (and_right (test (first +ℤ pos a)) (list_all test (map (λ k. first +ℤ pos k) (range_with_len (a + 1) n))) all) (omega arith) (omega arith))
+      each_of (a + 1) n k (and_right (test (first +ℤ pos a)) (list_all test (map (λ k. first +ℤ pos k) (range_with_len (a + 1) n))) all) (omega arith) (omega arith))
       (λ f. let here : a ≡ k = omega (arith, ltb-false a k f) in
-          ap (λ i. test (first +ℤ pos i)) (sym here) ∙ and_left (test (first +ℤ pos a)) (list_all test (map (λ k. first +ℤ pos k) (range_with_len (a + 1) n))) all)
+      ap (λ i. test (first +ℤ pos i)) (sym here) ∙ and_left (test (first +ℤ pos a)) (list_all test (map (λ k. first +ℤ pos k) (range_with_len (a + 1) n))) all)
 
   any_from : (a n k : ℕ) → a ≤ k → k < a + n → test (first +ℤ pos k) ≡ true
       → list_any test (map (λ k. first +ℤ pos k) (range_with_len a n)) ≡ true
@@ -100,9 +100,9 @@ module _ (test : ℤ → Bool) (first : ℤ) where
   any_from a (suc n) k from below passes =
       either (nat_lt a k)
       (λ t. let later = ltb-true a k t in
-          or_second (test (first +ℤ pos a)) (list_any test (map (λ k. first +ℤ pos k) (range_with_len (a + 1) n))) (any_from (a + 1) n k (omega arith) (omega arith) passes))
+      or_second (test (first +ℤ pos a)) (list_any test (map (λ k. first +ℤ pos k) (range_with_len (a + 1) n))) (any_from (a + 1) n k (omega arith) (omega arith) passes))
       (λ f. let here : a ≡ k = omega (arith, ltb-false a k f) in
-          or_first (test (first +ℤ pos a)) (list_any test (map (λ k. first +ℤ pos k) (range_with_len (a + 1) n))) (ap (λ i. test (first +ℤ pos i)) here ∙ passes))
+      or_first (test (first +ℤ pos a)) (list_any test (map (λ k. first +ℤ pos k) (range_with_len (a + 1) n))) (ap (λ i. test (first +ℤ pos i)) here ∙ passes))
 
   some_of : (a n : ℕ) → list_any test (map (λ k. first +ℤ pos k) (range_with_len a n)) ≡ true → Found a n
   some_of a zero any = absurd cc
@@ -110,7 +110,8 @@ module _ (test : ℤ → Bool) (first : ℤ) where
       either (test (first +ℤ pos a))
       (λ t. record { k = a; from = omega arith; below = omega arith; passes = t })
       (λ f. let r = some_of (a + 1) n (or_rest (test (first +ℤ pos a)) (list_any test (map (λ k. first +ℤ pos k) (range_with_len (a + 1) n))) any f) in
-          record { k = r.k; from = omega (arith, r.from); below = omega (arith, r.below); passes = r.passes })
+      record { k = r.k; from = omega (arith, r.from); below = omega (arith, r.below); passes = r.passes })
+
 -- the same of a test over the numbers from one to another
 pub all_between : (test : ℤ → Bool) (least greatest : ℤ) → least ≤ℤ greatest
     → ((n : ℤ) → least ≤ℤ n → n ≤ℤ greatest → test n ≡ true) → list_all test (between least greatest) ≡ true
@@ -191,14 +192,16 @@ in_first s spans n apart h near =
 
 module _ (least greatest : ℤ) where
   covers_in : (s : Span) → covers least greatest s ≡ true → (s.least ≤ℤ least) × (greatest ≤ℤ s.greatest)
-  covers_in s h =
-      (le_from s.least least (and_left (int_le s.least least) (int_le greatest s.greatest) h),
-      le_from greatest s.greatest (and_right (int_le s.least least) (int_le greatest s.greatest) h))
+  covers_in s h = (
+    le_from s.least least (and_left (int_le s.least least) (int_le greatest s.greatest) h),
+    le_from greatest s.greatest (and_right (int_le s.least least) (int_le greatest s.greatest) h),
+  )
 
   meets_in : (s : Span) → meets least greatest s ≡ true → (s.least ≤ℤ greatest) × (least ≤ℤ s.greatest)
-  meets_in s h =
-      (le_from s.least greatest (and_left (int_le s.least greatest) (int_le least s.greatest) h),
-      le_from least s.greatest (and_right (int_le s.least greatest) (int_le least s.greatest) h))
+  meets_in s h = (
+    le_from s.least greatest (and_left (int_le s.least greatest) (int_le least s.greatest) h),
+    le_from least s.greatest (and_right (int_le s.least greatest) (int_le least s.greatest) h),
+  )
 
   -- a span that covers the range has each of its numbers
   pub covers_has : (spans : List Span) (n : ℤ) → list_any (covers least greatest) spans ≡ true → least ≤ℤ n → n ≤ℤ greatest → has spans n ≡ true
@@ -315,9 +318,9 @@ over_same f g least greatest order same =
     let any : list_any f numbers ≡ list_any g numbers
     = same_by (list_any f numbers) (list_any g numbers)
     (λ some. let p = some_between f least greatest order some in
-        any_between g least greatest p.number p.low p.high (sym (same p.number p.low p.high) ∙ p.passes))
+    any_between g least greatest p.number p.low p.high (sym (same p.number p.low p.high) ∙ p.passes))
     (λ some. let p = some_between g least greatest order some in
-        any_between f least greatest p.number p.low p.high (same p.number p.low p.high ∙ p.passes)) in
+    any_between f least greatest p.number p.low p.high (same p.number p.low p.high ∙ p.passes)) in
     ap (λ b. cond b Yes (cond (list_any f numbers) Unknown No)) all
     ∙ ap (λ b. cond (list_all g numbers) Yes (cond b Unknown No)) any
 

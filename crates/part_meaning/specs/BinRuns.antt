@@ -50,4 +50,3 @@ runs_from bin (Unknown ∷ answers) = before Unknown bin (runs_from (bin + 1) an
 
 abbrev pub runs_of : List Three → List BinRun
 runs_of answers = runs_from 0 answers
-

@@ -1,7 +1,8 @@
 -- Columns and parts of a few rows, on which the definitions are computed.
-use Rattle.std.specs.Prelude.{ℕ, ℤ, pos, negsuc, List, [], ◌∷◌, Option, Some, None, map}
+use Rattle.std.specs.Prelude.{ℕ, ℤ, pos, negsuc, ◌-ℤ◌, List, [], ◌∷◌, Option, Some, None, map}
 use Rattle.std.specs.FinMap.{empty, insert}
 use lib.Chars.{codes}
+use Rattle.fb_outside.specs.Reads.{Look}
 use Rattle.fb_types.specs.declared.cells.Cell.{Cell}
 use Rattle.fb_types.specs.declared.cells.Cell.TheVariants.{Null, Whole, Word}
 use Rattle.fb_types.specs.declared.schemas.Column.{Column}
@@ -11,6 +12,7 @@ use Rattle.index_spec.specs.declared.spec.Binning.TheVariants as binning
 use Rattle.index_spec.specs.declared.spec.EncodingSpec.{EncodingSpec}
 use Rattle.index_spec.specs.declared.spec.EncodingSpec.TheVariants.{Equality}
 use Rattle.index_spec.specs.declared.spec.Spec.{Spec}
+use Rattle.where_grammar.specs.declared.clause.Atom.TheVariants as condition
 use Rattle.where_plan.specs.declared.plan.PlanAtom.{PlanAtom}
 use Rattle.where_plan.specs.declared.plan.PlanAtom.TheVariants as atom
 use Rattle.where_plan.specs.SpansOf.{span}
@@ -79,3 +81,39 @@ least_int = negsuc 2147483647
 
 abbrev pub greatest_int : ℤ
 greatest_int = pos 2147483647
+
+-- `3 < a < 9`
+abbrev pub from_4_to_8 : PlanAtom
+from_4_to_8 = on_spans 0 ((pos 4, pos 8) ∷ [])
+
+-- `a in (4, 5, 6, 7)`
+abbrev pub from_4_to_7 : PlanAtom
+from_4_to_7 = on_spans 0 ((pos 4, pos 7) ∷ [])
+
+-- `a < 4`, `a < 5` and `a < 9`
+abbrev pub below : ℕ → PlanAtom
+below n = on_spans 0 ((least_int, pos n -ℤ pos 1) ∷ [])
+
+-- `b = 1`
+abbrev pub b_is_1 : PlanAtom
+b_is_1 = on_spans 1 ((pos 1, pos 1) ∷ [])
+
+-- `a >= 1024`
+abbrev pub from_1024 : PlanAtom
+from_1024 = on_spans 0 ((pos 1024, greatest_int) ∷ [])
+
+-- each number of the type
+abbrev pub any_number : PlanAtom
+any_number = on_spans 0 ((least_int, greatest_int) ∷ [])
+
+-- `c = 'x'` and the like, and `c != 'q'`
+abbrev pub is_word : List ℕ → PlanAtom
+is_word word = atom.Word 0 (condition.Same (codes "c") word)
+
+abbrev pub isnt_word : List ℕ → PlanAtom
+isnt_word word = atom.Word 0 (condition.Other (codes "c") word)
+
+-- ---- reads
+
+abbrev pub look : List ℕ → ℕ → ℕ → Look
+look name offset room = record { name = name; offset = offset; room = room }

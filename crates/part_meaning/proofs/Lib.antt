@@ -5,3 +5,4 @@ pub mod ColumnLemmas
 pub mod UnionLemmas
 pub mod KnownLemmas
 pub mod PlanLemmas
+pub mod SampleLemmas

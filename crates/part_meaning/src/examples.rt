@@ -28,7 +28,7 @@ pub fn the_bitmaps_of_conditions()
         ∷ look (codes "D/p0000/a.idx") 219 12 ∷ [] }
 
     // `a < 4` is Yes on the first bin and No on the others; `exists` asks none.
-    ensures below { bitmap_looks (codes "D") 0 (ten Equality) (below 4)
+    ensures lowest { bitmap_looks (codes "D") 0 (ten Equality) (below 4)
         ≡ look (codes "D/p0000/a.idx") 195 12 ∷ [] }
     ensures exists { work_of (ten Equality) (atom.Exists 0) ≡ 0 }
 {}

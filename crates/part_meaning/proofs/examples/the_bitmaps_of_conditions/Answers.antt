@@ -39,9 +39,9 @@ pub returns-clause-looks : goal.returns-clause-looks
 unfolding bins_in bin_says bins_say needed_of runs_from bitmap_looks index_places printed printed_binning printed_encoding digits each_place union spelling word_bytes active_bytes words_bytes regular_words groups_in rest_of file_name leaf part_folder
 returns-clause-looks c = refl
 
-pub returns-clause-below : goal.returns-clause-below
+pub returns-clause-lowest : goal.returns-clause-lowest
 unfolding bins_in bin_says bins_say needed_of runs_from bitmap_looks index_places printed printed_binning printed_encoding digits each_place union spelling word_bytes active_bytes words_bytes regular_words groups_in rest_of file_name leaf part_folder
-returns-clause-below c = refl
+returns-clause-lowest c = refl
 
 pub returns-clause-exists : goal.returns-clause-exists
 unfolding bins_say needed_of runs_from work_of

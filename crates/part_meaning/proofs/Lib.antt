@@ -6,3 +6,4 @@ pub mod UnionLemmas
 pub mod KnownLemmas
 pub mod PlanLemmas
 pub mod SampleLemmas
+pub mod MeaningLemmas

@@ -12,15 +12,17 @@ ghost use Rattle.binning.specs.declared.span_lists.Span.{Span};
 ghost use Rattle.wah_logic.specs.Logic.{ones, union};
 ghost use Rattle.where_grammar.specs.declared.clause.Atom.{Atom};
 ghost use Rattle.where_grammar.specs.declared.clause.Clause.{Clause};
-ghost use Rattle.where_plan.specs.Plans.{FitsSchema, IsPlan};
+ghost use Rattle.where_plan.specs.Plans.{FitsColumn, FitsSchema, IsPlan};
 ghost use Rattle.where_plan.specs.PlanHolds.{is_asked_for};
 ghost use Rattle.where_plan.specs.SpansOf.{AreSpansOf, code_meets, code_range};
 ghost use Rattle.where_plan.specs.declared.plan.Plan.{Plan};
+ghost use Rattle.stages.specs.Meaning.{IsMeaningOf};
 ghost use Rattle.world.specs.World.{IsPartition, Partition};
 ghost use Rattle.part_meaning.specs.Answers.{definite_in, possible_in, rows_that_hold};
 ghost use Rattle.part_meaning.specs.BinRuns.{bin_at};
 ghost use Rattle.part_meaning.specs.Columns.{bins_in, column_at, number_of_row, present_rows};
 ghost use Rattle.part_meaning.specs.Known.{between, over};
+ghost use Rattle.part_meaning.specs.Meaning.{meaning_of};
 
 /// What spans say of a range is what they say of each number there: Yes where they have all, No where they have none. So the
 /// spans of the codes of a condition on words say what the words of these codes do.
@@ -46,6 +48,12 @@ pub fn the_bins_of_columns()
         → bin_at row (bins_in (column_at schema part col)) ≡ Some bin
         → (bin.least ≤ℤ number_of_row (column_at schema part col) row)
         × (number_of_row (column_at schema part col) row ≤ℤ bin.greatest) }
+{}
+
+/// What is known of a condition is so: Yes means that it is true of the row's record, and No that it isn't, as on a null.
+pub fn what_is_known()
+    ensures { (dir : List ℕ) (schema : List Column) (part : Partition) → IsPartition schema part
+        → IsMeaningOf (length part.records) (FitsColumn schema) (meaning_of dir schema part) }
 {}
 
 /// The two numbers of an estimate enclose the number of the part's records that the plan holds of.

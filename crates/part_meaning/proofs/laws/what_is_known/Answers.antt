@@ -1,0 +1,5 @@
+use Rattle.part_meaning.proofs.MeaningLemmas.{is_meaning}
+use Rattle.part_meaning.proofs.laws.what_is_known.Goals as goal
+
+pub returns : goal.returns
+returns c = is_meaning

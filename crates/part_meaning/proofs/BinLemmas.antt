@@ -1,12 +1,12 @@
 -- The bin that has a row, and that its ends enclose the row's number.
-use Rattle.std.proofs.Common.{◌≡◌, ℕ, zero, suc, ◌<◌, Bool, true, false, ◌||◌, cond, List, [], ◌∷◌, length, get_or, map, Option, Some, None, ℤ, pos, ◌≤ℤ◌, refl, sym, ap, subst, ◌∙◌, arith}
+use Rattle.std.proofs.Common.{◌≡◌, ℕ, zero, suc, Bool, true, false, ◌||◌, cond, List, [], ◌∷◌, get_or, map, Option, Some, None, ℤ, ◌≤ℤ◌, refl, sym, ap, ◌∙◌, arith}
 use Rattle.std.specs.List.{filter, fold, list_any}
 use Rattle.std.specs.Int.{int_max, int_min}
 use Rattle.std.specs.Ordering.{int_eq}
 use Rattle.std.proofs.lemmas.Int.{clamps, ints}
 use Rattle.std.proofs.Math.ListN.{get_or-map}
 use Rattle.binning.specs.Keys.{key, rising}
-use Rattle.binning.specs.Bins.{bin_of, bins_of, greatest_of, has_key, least_of, present, rows_with, values_with}
+use Rattle.binning.specs.Bins.{bin_of, bins_of, greatest_of, has_key, least_of, present, values_with}
 use Rattle.binning.specs.Gathered.{is_in}
 use Rattle.binning.specs.declared.rules.Keying.{Keying}
 use Rattle.binning.specs.declared.gathering.Bin.{Bin}

@@ -1,11 +1,11 @@
 -- The codes of a category's words.
-use Rattle.std.proofs.Common.{◌≡◌, ℕ, zero, suc, ◌+◌, ◌-◌, ◌<◌, ◌≤◌, Bool, true, false, List, [], ◌∷◌, length, get_or, Option, Some, None, refl, sym, ap, ◌∙◌, arith}
+use Rattle.std.proofs.Common.{◌≡◌, ℕ, zero, suc, ◌+◌, ◌≤◌, List, [], ◌∷◌, length, get_or, Some, sym, ap, ◌∙◌, arith}
 use Rattle.std.specs.List.{filter_map, fold, slice_get}
 use Rattle.std.proofs.lemmas.Option.{slice_get_within}
 use Rattle.std.proofs.lemmas.List.Elements.{}
 use Rattle.fb_types.specs.declared.cells.Cell.{Cell}
 use Rattle.fb_types.specs.declared.cells.Cell.TheVariants.{Null, Whole, Word}
-use Rattle.text_column.specs.Words.{code_in, first_seen, with_word, word_in}
+use Rattle.text_column.specs.Words.{code_in, with_word, word_in}
 use Rattle.text_column.proofs.WordLemmas.{code_kept, code_seen}
 use Rattle.text_column.proofs.DictionaryLemmas.{word_next, word_of_code}
 use Rattle.world.specs.Cells.{dictionary_of, word_of}

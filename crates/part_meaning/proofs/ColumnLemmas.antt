@@ -1,6 +1,5 @@
 -- The cells of a part's columns, and the bins that have them.
-use Rattle.std.proofs.Common.{◌≡◌, ℕ, zero, suc, ◌+◌, ◌<◌, ◌≤◌, Bool, true, false, cond, List, [], ◌∷◌, All, length, get_or, map, MatchOption, Option, Some, None, IsSome, unwrap_or, ℤ, pos, ◌≤ℤ◌, refl, sym, ap, subst, ◌∙◌, arith}
-use Rattle.std.specs.FinMap.{get}
+use Rattle.std.proofs.Common.{◌≡◌, ℕ, zero, suc, ◌≤◌, true, false, List, [], ◌∷◌, All, length, get_or, map, MatchOption, Option, Some, None, IsSome, unwrap_or, ℤ, pos, ◌≤ℤ◌, refl, sym, ap, subst, ◌∙◌, arith}
 use Rattle.std.proofs.lemmas.Int.{ints}
 use Rattle.std.proofs.lemmas.List.Elements.{All-head, All-tail}
 use Rattle.std.proofs.lemmas.Option.{get_or_from_slice_get}
@@ -17,13 +16,13 @@ use Rattle.binning.specs.Bins.{cells}
 use Rattle.text_column.specs.Words.{code_in}
 use Rattle.where_plan.specs.SpansOf.{code_range}
 use Rattle.where_plan.specs.PlanHolds.{cell_at}
-use Rattle.world.specs.Cells.{code_of, column_cells, dictionary_of, is_present, number_of, stored_numbers}
-use Rattle.world.specs.IndexFiles.{column_bins, keys_by}
-use Rattle.world.specs.World.{CanIndex, IsPartition, Partition}
+use Rattle.world.specs.Cells.{code_of, dictionary_of, is_present, number_of, stored_numbers}
+use Rattle.world.specs.IndexFiles.{keys_by}
+use Rattle.world.specs.World.{IsPartition, Partition}
 use Rattle.part_meaning.specs.BinRuns.{bin_at}
-use Rattle.part_meaning.specs.Columns.{PartColumn, bins_in, bins_under, cell_of_row, column_at, ends_in, ends_or, no_column, number_of_row, one_bin}
+use Rattle.part_meaning.specs.Columns.{PartColumn, bins_in, bins_under, cell_of_row, column_at, ends_in, ends_or, no_column, number_of_row}
 use Rattle.part_meaning.proofs.BinLemmas.{HasRow, keyed_none, keyed_row, one_none, one_row}
-use Rattle.part_meaning.proofs.CodeLemmas.{code_within, IsCoded, row_coded}
+use Rattle.part_meaning.proofs.CodeLemmas.{code_within, row_coded}
 
 -- ---- the number of a cell
 

@@ -1,5 +1,5 @@
 -- What is known of conditions is so, and so the bounds enclose the number of records that a plan holds of.
-use Rattle.std.proofs.Common.{◌≡◌, ℕ, zero, suc, ◌+◌, ◌<◌, ◌≤◌, ◌≤ℤ◌, Bool, true, false, not, cond, List, [], ◌∷◌, All, count_by, length, get_or, map, MatchOption, Option, Some, None, IsSome, unwrap_or, option_map, ℤ, pos, refl, sym, ap, subst, ◌∙◌, arith}
+use Rattle.std.proofs.Common.{◌≡◌, ℕ, suc, ◌+◌, ◌≤◌, ◌≤ℤ◌, Bool, true, false, cond, List, [], ◌∷◌, All, count_by, length, get_or, map, MatchOption, Option, Some, None, unwrap_or, option_map, ℤ, pos, refl, sym, ap, subst, ◌∙◌, arith}
 use Rattle.std.specs.Prelude.{is_none, is_some}
 use Rattle.std.specs.List.{AllByRecursion, range_with_len, slice_get}
 use Rattle.std.proofs.lemmas.List.Elements.{All-cons, All-head, All-nil, All-tail}
@@ -9,24 +9,23 @@ use Rattle.fb_types.specs.declared.cells.Cell.{Cell}
 use Rattle.fb_types.specs.declared.cells.Cell.TheVariants.{Null, Whole, Word}
 use Rattle.fb_types.specs.declared.schemas.Column.{Column}
 use Rattle.fb_types.specs.declared.types.ColType.{ColType}
-use Rattle.fb_types.specs.declared.types.ColType.TheVariants.{Byte, UByte, Short, UShort, Int, UInt, Long, ULong, Category, Text}
 use Rattle.fb_types.specs.Cells.{CellFits, RecordFits}
 use Rattle.fb_types.specs.Types.{ends_of, width_of}
 use Rattle.binning.specs.Against.{against}
 use Rattle.binning.specs.Spans.{has}
 use Rattle.binning.specs.declared.against_bins.Three.{Three}
-use Rattle.binning.specs.declared.against_bins.Three.TheVariants.{Yes, No, Unknown}
+use Rattle.binning.specs.declared.against_bins.Three.TheVariants.{No}
 use Rattle.binning.specs.declared.gathering.Bin.{Bin}
 use Rattle.binning.specs.declared.span_lists.Span.{Span}
 use Rattle.wah_logic.specs.Logic.{ones}
-use Rattle.text_column.specs.Words.{code_in, word_in}
+use Rattle.text_column.specs.Words.{code_in}
 use Rattle.text_column.proofs.DictionaryLemmas.{word_of_code}
 use Rattle.where_grammar.specs.declared.clause.Atom.{Atom}
 use Rattle.where_grammar.specs.declared.clause.Atom.TheVariants as clause
 use Rattle.where_grammar.specs.declared.clause.Clause.{Clause}
 use Rattle.where_grammar.specs.Holds.{is_met, is_there, number_passes}
 use Rattle.where_plan.specs.Plans.{FitsColumn, FitsSchema, IsPlan, place_in}
-use Rattle.where_plan.specs.PlanHolds.{cell_at, is_asked_for, plan_atom_holds, plan_holds}
+use Rattle.where_plan.specs.PlanHolds.{is_asked_for, plan_atom_holds, plan_holds}
 use Rattle.where_plan.specs.SpansOf.{code_meets, some_passes}
 use Rattle.where_plan.specs.declared.plan.Plan.{Plan}
 use Rattle.where_plan.specs.declared.plan.PlanAtom.{PlanAtom}
@@ -41,12 +40,12 @@ use Rattle.world.specs.Cells.{dictionary_of, is_present}
 use Rattle.world.specs.World.{IsPartition, Partition}
 use Rattle.part_meaning.specs.BinRuns.{bin_at, said_by}
 use Rattle.part_meaning.specs.Columns.{PartColumn, bins_in, cell_of_row, column_at, no_column}
-use Rattle.part_meaning.specs.Known.{between, bin_says, known, of_codes, over}
+use Rattle.part_meaning.specs.Known.{bin_says, known, of_codes}
 use Rattle.part_meaning.specs.Parts.{column_for, known_in, record_of}
 use Rattle.part_meaning.specs.Answers.{definite_in, possible_in, rows_that_hold}
 use Rattle.part_meaning.proofs.RangeLemmas.{against_sound, over_sound}
 use Rattle.part_meaning.proofs.BinLemmas.{HasRow}
-use Rattle.part_meaning.proofs.CodeLemmas.{IsCoded, row_coded}
+use Rattle.part_meaning.proofs.CodeLemmas.{row_coded}
 use Rattle.part_meaning.proofs.ColumnLemmas.{cell_is, is_column, IsColumn, no_row, number_by, row_has}
 
 -- ---- conditions on one cell

@@ -1,18 +1,17 @@
 -- What spans, and conditions on words, say of the numbers from one to another.
-use Rattle.std.proofs.Common.{◌≡◌, ℕ, zero, suc, ◌+◌, ◌-◌, ◌<◌, ◌≤◌, Bool, true, false, ◌&&◌, ◌||◌, cond, nat_lt, List, [], ◌∷◌, length, map, ℤ, pos, negsuc, ◌+ℤ◌, ◌≤ℤ◌, ◌<ℤ◌, refl, sym, ap, ◌∙◌, arith}
+use Rattle.std.proofs.Common.{◌≡◌, ℕ, zero, suc, ◌+◌, ◌<◌, ◌≤◌, Bool, true, false, ◌&&◌, ◌||◌, cond, nat_lt, List, [], ◌∷◌, length, map, ℤ, pos, negsuc, ◌+ℤ◌, ◌≤ℤ◌, ◌<ℤ◌, refl, sym, ap, ◌∙◌, arith}
 use Rattle.std.specs.List.{list_all, list_any, range_with_len}
 use Rattle.std.specs.Int.{int_gap}
 use Rattle.std.proofs.lemmas.Bool.{ltb-false, ltb-true}
 use Rattle.std.proofs.lemmas.Int.{by_lt_z, ints}
 use Rattle.binning.specs.Against.{against, covers, meets}
 use Rattle.binning.specs.Spans.{AreApart, has, in_span, int_le}
-use Rattle.binning.specs.declared.against_bins.Three.{Three}
 use Rattle.binning.specs.declared.against_bins.Three.TheVariants.{Yes, No, Unknown}
 use Rattle.binning.specs.declared.span_lists.Span.{Span}
 use Rattle.binning.proofs.TestLemmas.{either, int_le-true, le_from, not_both}
 use Rattle.binning.proofs.SpanLemmas.{apart_after, has_number_of}
 use Rattle.where_grammar.specs.declared.clause.Atom.{Atom}
-use Rattle.where_plan.specs.SpansOf.{AreSpansOf, code_meets, code_range, span}
+use Rattle.where_plan.specs.SpansOf.{AreSpansOf, code_meets, code_range}
 use Rattle.three_valued.specs.Plans.{IsSound}
 use Rattle.part_meaning.specs.Known.{between, over}
 

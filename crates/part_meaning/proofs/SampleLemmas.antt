@@ -1,18 +1,15 @@
 -- The columns of the parts of a few rows.
-use Rattle.std.proofs.Common.{◌≡◌, ℕ, zero, suc, ℤ, pos, List, [], ◌∷◌, map, Option, Some, None, refl, ap, ◌∙◌, arith}
+use Rattle.std.proofs.Common.{◌≡◌, ℕ, zero, suc, ℤ, List, [], ◌∷◌, Option, Some, None, ap, ◌∙◌, arith}
 use lib.Chars.{codes}
 use Rattle.std.specs.FinMap.{empty, get-empty, insert}
 use Rattle.std.specs.Ordering.{nat_cmp}
-use Rattle.fb_types.specs.declared.cells.Cell.TheVariants.{Null, Whole}
 use Rattle.fb_types.specs.declared.types.ColType.TheVariants.{Int}
 use Rattle.index_spec.specs.declared.spec.Binning.TheVariants as binning
 use Rattle.index_spec.specs.declared.spec.EncodingSpec.{EncodingSpec}
 use Rattle.index_spec.specs.declared.spec.EncodingSpec.TheVariants.{Equality}
 use Rattle.index_spec.specs.declared.spec.Spec.{Spec}
-use Rattle.binning.specs.declared.against_bins.Three.{Three}
 use Rattle.where_plan.specs.Plans.{place_in}
 use Rattle.where_plan.specs.declared.plan.Plan.TheVariants as plan
-use Rattle.where_plan.specs.declared.plan.PlanAtom.{PlanAtom}
 use Rattle.three_valued.specs.Tables.{joined, three_not}
 use Rattle.three_valued.specs.declared.connectives.Join.TheVariants as join
 use Rattle.world.specs.Cells.{column_cells}

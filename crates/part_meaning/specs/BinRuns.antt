@@ -1,7 +1,5 @@
 -- The runs of neighbouring bins with one answer, Yes or Unknown.
-use Rattle.std.specs.Prelude.{◌≡◌, ⊤, ℕ, ◌+◌, ◌<◌, ◌≤◌, ◌==◌, ◌&&◌, Bool, true, false, List, [], ◌∷◌, if◌then◌else◌, slice_index_or}
-use Rattle.std.specs.List.{AllByRecursion, list_any}
-use Rattle.binning.specs.Members.{in_run}
+use Rattle.std.specs.Prelude.{ℕ, ◌+◌, ◌==◌, ◌&&◌, Bool, true, false, List, [], ◌∷◌, if◌then◌else◌, slice_index_or}
 use Rattle.binning.specs.declared.against_bins.Three.{Three}
 use Rattle.binning.specs.declared.against_bins.Three.TheVariants.{Yes, No, Unknown}
 use Rattle.std.specs.Prelude.{Option, Some, None}

@@ -1,12 +1,10 @@
 -- Columns and parts of a few rows, on which the definitions are computed.
-use Rattle.std.specs.Prelude.{ℕ, ℤ, pos, negsuc, ◌-ℤ◌, List, [], ◌∷◌, Option, Some, None, map}
+use Rattle.std.specs.Prelude.{ℕ, ℤ, pos, negsuc, ◌-ℤ◌, List, [], ◌∷◌, Option, Some, map}
 use Rattle.std.specs.FinMap.{empty, insert}
 use lib.Chars.{codes}
 use Rattle.fb_outside.specs.Reads.{Look}
-use Rattle.fb_types.specs.declared.cells.Cell.{Cell}
 use Rattle.fb_types.specs.declared.cells.Cell.TheVariants.{Null, Whole, Word}
 use Rattle.fb_types.specs.declared.schemas.Column.{Column}
-use Rattle.fb_types.specs.declared.types.ColType.{ColType}
 use Rattle.fb_types.specs.declared.types.ColType.TheVariants.{Int, Category}
 use Rattle.index_spec.specs.declared.spec.Binning.TheVariants as binning
 use Rattle.index_spec.specs.declared.spec.EncodingSpec.{EncodingSpec}

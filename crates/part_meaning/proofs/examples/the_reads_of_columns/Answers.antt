@@ -3,7 +3,7 @@ use Rattle.std.specs.Fmt.{digits}
 use Rattle.wah_words.specs.Bytes.{active_bytes, number_bytes as word_bytes, spelling, words_bytes}
 use Rattle.wah_words.specs.Spelling.{groups_in, regular_words, rest_of}
 use Rattle.wah_logic.specs.Logic.{each_place, union}
-use Rattle.index_spec.specs.Printed.{coarse_text, printed, printed_binning, printed_encoding}
+use Rattle.index_spec.specs.Printed.{printed, printed_binning, printed_encoding}
 use Rattle.part_meta.specs.FileNames.{file_name, leaf, part_folder}
 use Rattle.part_meaning.specs.Bitmaps.{index_places}
 use Rattle.part_meaning.specs.Files.{is_bitmap_of, is_free_of, is_of_rows}

@@ -1,0 +1,5 @@
+pub mod RunLemmas
+pub mod RowLemmas
+pub mod FetchLemmas
+pub mod IndexLemmas
+pub mod EdgeLemmas

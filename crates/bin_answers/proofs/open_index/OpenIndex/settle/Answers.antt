@@ -1,0 +1,52 @@
+use Rattle.std.proofs.Common.{◌≡◌, ◌+◌, ◌*◌, ◌≤◌, ℕ, List, All, length, refl, ap, sym, subst, ◌∙◌, arith}
+use Rattle.std.proofs.lemmas.Result.{err_from_is_err_and}
+use Rattle.wah_logic.specs.Logic.{groups_and_rest, union}
+use Rattle.binning.specs.declared.against_bins.Three.TheVariants.{Unknown, Yes}
+use Rattle.binning.specs.declared.span_lists.Span.{Span}
+use Rattle.three_valued.specs.Rows.{answers_of}
+use Rattle.index_file.specs.declared.edge.Edge.{Edge}
+use Rattle.bin_answers.specs.BinRuns.{runs_of}
+use Rattle.bin_answers.specs.Bins.{edges_say, rows_of_runs}
+use Rattle.bin_answers.specs.Fetched.{AreSound, IsOutside, StopsIn, needed_by, needed_on, runs_on}
+use Rattle.bin_answers.specs.declared.bin_runs.BinRun.{BinRun}
+use Rattle.bin_answers.specs.declared.fault.BinsFault.{BinsFault}
+use Rattle.bin_answers.specs.declared.fault.BinsFault.TheVariants.{OutOfMemory}
+use Rattle.bin_answers.proofs.FetchLemmas.{bins_outside, fetches_less, fetches_yet, stop_memory}
+use Rattle.bin_answers.proofs.IndexLemmas.{all_below, all_steps, some_steps}
+use Rattle.bin_answers.proofs.RowLemmas.{answers_long, bins_answer}
+use Rattle.bin_answers.proofs.open_index.OpenIndex.settle.Goals as goal
+
+-- the runs that are found are those of the bins
+abbrev found_runs : (edges seen : List Edge) (spans : List Span) (runs items : List BinRun) → runs ≡ items → items ≡ runs_of (edges_say seen spans) → seen ≡ edges → runs ≡ runs_of (edges_say edges spans)
+found_runs edges seen spans runs items e h k = e ∙ h ∙ ap (λ (l : List Edge). runs_of (edges_say l spans)) k
+
+pub returns-clause-exact : goal.returns-clause-exact
+returns-clause-exact g c =
+    let same = found_runs c.args.self.now.head.bins _ c.args.spans.now _ _ c.deref.ensures.value c.in_ok-runs.ensures.runs c.as_slice.ensures in
+    subst (λ (rs : List BinRun). AreSound (g.S.Store.files c.args.store.now) c.args.self.now.head (needed_by c.args.self.now.head rs)) same c.in_ok-found.ensures.exact
+
+pub returns-clause-reads : goal.returns-clause-reads
+returns-clause-reads g c =
+    let head = c.args.self.now.head in
+    let same = found_runs head.bins _ c.args.spans.now _ _ c.deref.ensures.value c.in_ok-runs.ensures.runs c.as_slice.ensures in
+    fetches_less _ _ _ _ _ head _ (needed_on head c.args.spans.now) (ap (needed_by head) (sym same)) (λ e. refl) c.in_ok-found.ensures.reads
+
+pub returns-clause-length : goal.returns-clause-length
+returns-clause-length g c =
+    let rows = c.len.ensures.length in
+    let is : c.in_ok-answers.answers ≡ answers_of (union (length c.args.self.now.mask) c.in_ok-found.found.definite.items) (union (length c.args.self.now.mask) c.in_ok-found.found.unknown.items) =
+    c.in_ok-answers.ensures.answers ∙ ap (λ (n : ℕ). answers_of (union n c.in_ok-found.found.definite.items) (union n c.in_ok-found.found.unknown.items)) rows in
+    answers_long (length c.args.self.now.mask) c.in_ok-answers.answers c.in_ok-found.found.definite.items c.in_ok-found.found.unknown.items is c.in_ok-found.ensures.definite_long
+    c.in_ok-found.ensures.unknown_long
+
+pub returns-clause-answers : goal.returns-clause-answers
+returns-clause-answers g c = λ bins h.
+    (let head = c.args.self.now.head in
+    let rows = length c.args.self.now.mask in
+    let same = found_runs head.bins _ c.args.spans.now _ _ c.deref.ensures.value c.in_ok-runs.ensures.runs c.as_slice.ensures in
+    let found = c.in_ok-found.found in
+    c.in_ok-answers.ensures.answers
+    ∙ ap (λ (n : ℕ). answers_of (union n found.definite.items) (union n found.unknown.items)) c.len.ensures.length
+    ∙ bins_answer rows c.args.spans.now head.bins bins found.definite.items found.unknown.items h.ends h.apart
+    (c.in_ok-found.ensures.definite bins h ∙ ap (rows_of_runs rows bins Yes) same)
+    (c.in_ok-found.ensures.unknown bins h ∙ ap (rows_of_runs rows bins Unknown) same))

@@ -1,0 +1,3 @@
+pub mod BinRuns
+pub mod Bins
+pub mod Fetched

@@ -13,7 +13,7 @@ use Rattle.binning.specs.declared.gathering.Bin.{Bin}
 use Rattle.binning.specs.declared.span_lists.Span.{Span}
 use Rattle.binning.proofs.TestLemmas.{either, not_both}
 use Rattle.binning.proofs.KeyLemmas.{eq_from, eq_self, is_in-rising, or_left, or_right}
-use Rattle.part_meaning.specs.BinRuns.{bin_at}
+use Rattle.bin_answers.specs.Bins.{bin_at}
 use Rattle.part_meaning.specs.Columns.{one_bin}
 
 -- a bin has the row, and the number lies between its ends

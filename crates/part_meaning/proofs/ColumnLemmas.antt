@@ -19,7 +19,7 @@ use Rattle.where_plan.specs.PlanHolds.{cell_at}
 use Rattle.world.specs.Cells.{code_of, dictionary_of, is_present, number_of, stored_numbers}
 use Rattle.world.specs.IndexFiles.{keys_by}
 use Rattle.world.specs.World.{IsPartition, Partition}
-use Rattle.part_meaning.specs.BinRuns.{bin_at}
+use Rattle.bin_answers.specs.Bins.{bin_at}
 use Rattle.part_meaning.specs.Columns.{PartColumn, bins_in, bins_under, cell_of_row, column_at, ends_in, ends_or, no_column, number_of_row}
 use Rattle.part_meaning.proofs.BinLemmas.{HasRow, keyed_none, keyed_row, one_none, one_row}
 use Rattle.part_meaning.proofs.CodeLemmas.{code_within, row_coded}

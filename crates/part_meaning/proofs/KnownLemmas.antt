@@ -38,7 +38,7 @@ use Rattle.three_valued.proofs.PlanLemmas.{record_truth}
 use Rattle.three_valued.proofs.SoundLemmas.{definite_le, possible_ge}
 use Rattle.world.specs.Cells.{dictionary_of, is_present}
 use Rattle.world.specs.World.{IsPartition, Partition}
-use Rattle.part_meaning.specs.BinRuns.{bin_at, said_by}
+use Rattle.bin_answers.specs.Bins.{bin_at, said_by}
 use Rattle.part_meaning.specs.Columns.{PartColumn, bins_in, cell_of_row, column_at, no_column}
 use Rattle.part_meaning.specs.Known.{bin_says, known, of_codes}
 use Rattle.part_meaning.specs.Parts.{column_for, known_in, record_of}

@@ -15,7 +15,7 @@ use Rattle.wah_logic.specs.Logic.{each_place, or, union}
 use Rattle.world.specs.Cells.{column_cells, dictionary_of, is_present, stored_numbers}
 use Rattle.world.specs.IndexFiles.{keys_by}
 use Rattle.world.specs.World.{IsPartition, Partition}
-use Rattle.part_meaning.specs.BinRuns.{bin_at}
+use Rattle.bin_answers.specs.Bins.{bin_at}
 use Rattle.part_meaning.specs.Columns.{PartColumn, bins_in, bins_under, cell_of_row, column_at, ends_in, number_of_row, one_bin, present_rows}
 use Rattle.part_meaning.proofs.ColumnLemmas.{has_row, is_column, IsColumn, no_row, number_by, stored_by}
 

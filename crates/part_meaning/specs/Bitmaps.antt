@@ -12,7 +12,8 @@ use Rattle.where_plan.specs.declared.plan.PlanAtom.{PlanAtom}
 use Rattle.where_plan.specs.declared.plan.PlanAtom.TheVariants as atom
 use Rattle.world.specs.Cells.{is_present, stored_numbers}
 use Rattle.world.specs.IndexFiles.{bitmaps_by, column_bins, edge_of}
-use Rattle.part_meaning.specs.BinRuns.{BinRun, runs_of}
+use Rattle.bin_answers.specs.BinRuns.{runs_of}
+use Rattle.bin_answers.specs.declared.bin_runs.BinRun.{BinRun}
 use Rattle.part_meaning.specs.Columns.{PartColumn, bins_in}
 use Rattle.part_meaning.specs.Known.{bin_says}
 

@@ -13,7 +13,7 @@ use Rattle.where_plan.specs.declared.plan.PlanAtom.{PlanAtom}
 use Rattle.where_plan.specs.declared.plan.PlanAtom.TheVariants as atom
 use Rattle.three_valued.specs.Tables.{decided}
 use Rattle.world.specs.Cells.{dictionary_of}
-use Rattle.part_meaning.specs.BinRuns.{bin_at, said_by}
+use Rattle.bin_answers.specs.Bins.{bin_at, said_by}
 use Rattle.part_meaning.specs.Columns.{PartColumn, bins_in, cell_of_row}
 
 -- ---- a test of numbers

@@ -1,5 +1,4 @@
 pub mod Columns
-pub mod BinRuns
 pub mod Known
 pub mod Bitmaps
 pub mod Files

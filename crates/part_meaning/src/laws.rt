@@ -19,7 +19,7 @@ ghost use Rattle.where_plan.specs.declared.plan.Plan.{Plan};
 ghost use Rattle.stages.specs.Meaning.{IsMeaningOf};
 ghost use Rattle.world.specs.World.{IsPartition, Partition};
 ghost use Rattle.part_meaning.specs.Answers.{definite_in, possible_in, rows_that_hold};
-ghost use Rattle.part_meaning.specs.BinRuns.{bin_at};
+ghost use Rattle.bin_answers.specs.Bins.{bin_at};
 ghost use Rattle.part_meaning.specs.Columns.{bins_in, column_at, number_of_row, present_rows};
 ghost use Rattle.part_meaning.specs.Known.{between, over};
 ghost use Rattle.part_meaning.specs.Meaning.{meaning_of};

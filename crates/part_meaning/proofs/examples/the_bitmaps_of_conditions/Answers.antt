@@ -5,7 +5,7 @@ use Rattle.wah_words.specs.Spelling.{groups_in, regular_words, rest_of}
 use Rattle.wah_logic.specs.Logic.{each_place, union}
 use Rattle.index_spec.specs.Printed.{printed, printed_binning, printed_encoding}
 use Rattle.part_meta.specs.FileNames.{file_name, leaf, part_folder}
-use Rattle.part_meaning.specs.BinRuns.{runs_from}
+use Rattle.bin_answers.specs.BinRuns.{runs_from}
 use Rattle.part_meaning.specs.Bitmaps.{bins_say, bitmap_looks, index_places, needed_of, work_of}
 use Rattle.part_meaning.specs.Columns.{bins_in}
 use Rattle.part_meaning.specs.Known.{bin_says}

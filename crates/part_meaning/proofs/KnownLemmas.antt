@@ -33,7 +33,7 @@ use Rattle.where_plan.specs.declared.plan.PlanAtom.TheVariants as atom
 use Rattle.where_plan.proofs.PlanLemmas.{whole_truth}
 use Rattle.three_valued.specs.Candidates.{true_rows}
 use Rattle.three_valued.specs.Plans.{AreSound, atoms_of, is_true, IsSound}
-use Rattle.three_valued.specs.Tables.{decided}
+use Rattle.three_valued.specs.Tables.{decided, undecided}
 use Rattle.three_valued.proofs.PlanLemmas.{record_truth}
 use Rattle.three_valued.proofs.SoundLemmas.{definite_le, possible_ge}
 use Rattle.world.specs.Cells.{dictionary_of, is_present}
@@ -150,6 +150,22 @@ module _ (column : PartColumn) (row : ℕ) (is : IsColumn column) where
       by true = refl
       by false = refl
 
+  -- of a text nothing is known but that it is there
+  pub text_unknown : (col : ℕ) (condition : Atom) → width_of column.ty ≡ None
+      → known column (atom.Word col condition) row ≡ undecided (is_there (cell_of_row column row))
+  unfolding known bin_says
+  text_unknown col condition none = by (is_there (cell_of_row column row)) refl
+    where
+      test : ℤ → Bool
+      test = code_meets condition (dictionary_of column.cells)
+
+      by : (b : Bool) → is_there (cell_of_row column row) ≡ b
+          → said_by (of_codes (width_of column.ty) (code_meets condition (dictionary_of column.cells))) (bin_at row (bins_in column)) ≡ undecided b
+      by true h =
+          let r = row_has column row is (there_present (cell_of_row column row) true h) in
+          ap (said_by (of_codes (width_of column.ty) test)) r.at ∙ ap (λ o. of_codes o test r.bin) none
+      by false h = absent_no (of_codes (width_of column.ty) test) (there_present (cell_of_row column row) false h)
+
   pub null_no : (condition : PlanAtom) → is_there (cell_of_row column row) ≡ false → known column condition row ≡ No
   unfolding known
   null_no (atom.Whole col spans) absent =
@@ -188,6 +204,12 @@ record_sound schema part row (atom.Exists col) valid fits =
     let column = column_at schema part col in
     subst (λ cell. IsSound (known column (atom.Exists col) row) (is_there cell)) (cell_is schema part col row)
     (exists_sound column row (is_column schema part col valid) col)
+
+pub texts_unknown : (schema : List Column) (part : Partition) (col row : ℕ) (condition : Atom) → IsPartition schema part
+    → width_of (column_at schema part col).ty ≡ None
+    → known (column_at schema part col) (atom.Word col condition) row ≡ undecided (is_there (cell_of_row (column_at schema part col) row))
+texts_unknown schema part col row condition valid none =
+    text_unknown (column_at schema part col) row (is_column schema part col valid) col condition none
 
 -- ---- plans
 

@@ -13,7 +13,6 @@ use Rattle.where_plan.specs.declared.plan.PlanAtom.TheVariants as atom
 use Rattle.world.specs.Cells.{is_present, stored_numbers}
 use Rattle.world.specs.IndexFiles.{bitmaps_by, column_bins, edge_of}
 use Rattle.bin_answers.specs.BinRuns.{runs_of}
-use Rattle.bin_answers.specs.declared.bin_runs.BinRun.{BinRun}
 use Rattle.part_meaning.specs.Columns.{PartColumn, bins_in}
 use Rattle.part_meaning.specs.Known.{bin_says}
 
@@ -25,19 +24,13 @@ bins_say column (atom.Whole col spans) = map (bin_says column (atom.Whole col sp
 bins_say column (atom.Word col condition) = map (bin_says column (atom.Word col condition)) (bins_in column)
 bins_say column (atom.Exists col) = []
 
--- the runs of the column's bins on which the condition is Yes or Unknown
-abbrev pub runs_in : PartColumn → PlanAtom → List BinRun
-runs_in column condition = runs_of (bins_say column condition)
-
--- the numbers of the bitmaps that runs of n bins need, run by run
-abbrev pub needed_for : Spec → ℕ → List BinRun → List ℕ
-needed_for spec n runs = flat_map (λ r. needed spec.encoding n r.first r.past) runs
-
 abbrev pub needed_under : Option Spec → PartColumn → PlanAtom → List ℕ
 needed_under None column condition = []
-needed_under (Some spec) column condition = needed_for spec (length (bins_in column)) (runs_in column condition)
+needed_under (Some spec) column condition =
+    flat_map (λ r. needed spec.encoding (length (bins_in column)) r.first r.past) (runs_of (bins_say column condition))
 
--- the numbers of the bitmaps that the condition needs of its column, in order; none without an index
+-- the numbers of the bitmaps that the condition needs of its column, for one run of bins with one answer, Yes or Unknown, after
+-- another; none without an index
 unfoldable pub needed_of : PartColumn → PlanAtom → List ℕ
 needed_of column condition = needed_under column.spec column condition
 
@@ -61,4 +54,4 @@ bitmap_looks dir number column condition = looks_under column.spec (index_name d
 
 -- how many times the steps for all rows it may take to know what is known of the condition
 unfoldable pub work_of : PartColumn → PlanAtom → ℕ
-work_of column condition = 4 * (length (needed_of column condition) + length (runs_in column condition))
+work_of column condition = 4 * (length (needed_of column condition) + length (runs_of (bins_say column condition)))

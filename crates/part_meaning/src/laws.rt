@@ -1,6 +1,6 @@
 //! Laws of what is known of conditions, each on a function that does nothing.
 
-ghost use Rattle.std.specs.Prelude.{◌≡◌, ◌≤◌, ◌≤ℤ◌, ℕ, ℤ, pos, List, Option, Some, IsSome, length, map};
+ghost use Rattle.std.specs.Prelude.{◌≡◌, ◌≤◌, ◌≤ℤ◌, ℕ, ℤ, pos, List, None, Option, Some, IsSome, length, map};
 ghost use Rattle.fb_types.specs.Types.{width_of};
 ghost use Rattle.fb_types.specs.declared.schemas.Column.{Column};
 ghost use Rattle.binning.specs.Against.{against};
@@ -12,16 +12,19 @@ ghost use Rattle.binning.specs.declared.span_lists.Span.{Span};
 ghost use Rattle.wah_logic.specs.Logic.{ones, union};
 ghost use Rattle.where_grammar.specs.declared.clause.Atom.{Atom};
 ghost use Rattle.where_grammar.specs.declared.clause.Clause.{Clause};
+ghost use Rattle.where_grammar.specs.Holds.{is_there};
 ghost use Rattle.where_plan.specs.Plans.{FitsColumn, FitsSchema, IsPlan};
 ghost use Rattle.where_plan.specs.PlanHolds.{is_asked_for};
 ghost use Rattle.where_plan.specs.SpansOf.{AreSpansOf, code_meets, code_range};
 ghost use Rattle.where_plan.specs.declared.plan.Plan.{Plan};
+ghost use Rattle.where_plan.specs.declared.plan.PlanAtom.TheVariants as atom;
+ghost use Rattle.three_valued.specs.Tables.{undecided};
 ghost use Rattle.stages.specs.Meaning.{IsMeaningOf};
 ghost use Rattle.world.specs.World.{IsPartition, Partition};
 ghost use Rattle.part_meaning.specs.Answers.{definite_in, possible_in, rows_that_hold};
 ghost use Rattle.bin_answers.specs.Bins.{bin_at};
-ghost use Rattle.part_meaning.specs.Columns.{bins_in, column_at, number_of_row, present_rows};
-ghost use Rattle.part_meaning.specs.Known.{between, over};
+ghost use Rattle.part_meaning.specs.Columns.{bins_in, cell_of_row, column_at, number_of_row, present_rows};
+ghost use Rattle.part_meaning.specs.Known.{between, known, over};
 ghost use Rattle.part_meaning.specs.Meaning.{meaning_of};
 
 /// What spans say of a range is what they say of each number there: Yes where they have all, No where they have none. So the
@@ -50,10 +53,15 @@ pub fn the_bins_of_columns()
         × (number_of_row (column_at schema part col) row ≤ℤ bin.greatest) }
 {}
 
-/// What is known of a condition is so: Yes means that it is true of the row's record, and No that it isn't, as on a null.
+/// What is known of a condition is so: Yes means that it is true of the row's record, and No that it isn't, as on a null. Of a
+/// condition on the texts of a text column nothing is known where there is a text.
 pub fn what_is_known()
-    ensures { (dir : List ℕ) (schema : List Column) (part : Partition) → IsPartition schema part
+    ensures sound { (dir : List ℕ) (schema : List Column) (part : Partition) → IsPartition schema part
         → IsMeaningOf (length part.records) (FitsColumn schema) (meaning_of dir schema part) }
+    ensures texts { (schema : List Column) (part : Partition) (col row : ℕ) (condition : Atom)
+        → IsPartition schema part → width_of (column_at schema part col).ty ≡ None
+        → known (column_at schema part col) (atom.Word col condition) row
+        ≡ undecided (is_there (cell_of_row (column_at schema part col) row)) }
 {}
 
 /// The two numbers of an estimate enclose the number of the part's records that the plan holds of.

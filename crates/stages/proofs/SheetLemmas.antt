@@ -1,6 +1,9 @@
--- Vectors that tests push bit by bit, and plans that they put together.
-use Rattle.std.proofs.Common.{◌≡◌, ℕ, ◌+◌, ◌<◌, ◌≤◌, Bool, false, List, [], ◌∷◌, ◌++◌, length, sym, ap, subst, ◌∙◌, arith, length-append}
+-- Vectors that tests push bit by bit, plans that they put together, and what a sheet answers.
+use Rattle.std.proofs.Common.{◌≡◌, ℕ, ◌+◌, ◌*◌, ◌<◌, ◌≤◌, Bool, false, List, [], ◌∷◌, ◌++◌, Some, All, length, sym, ap, subst, ◌∙◌, arith, length-append}
+use Rattle.std.specs.Prelude.{slice_get}
 use Rattle.std.specs.List.{AllByRecursion, flat_map}
+use Rattle.std.proofs.lemmas.List.Elements.{All-get_or}
+use Rattle.std.proofs.lemmas.Option.{get_or_from_slice_get, slice_get_within}
 use Rattle.std.proofs.lemmas.Grind.{flat_map-append}
 use Rattle.wah_words.specs.Built.{Built}
 use Rattle.where_plan.specs.declared.plan.Plan.{Plan}
@@ -37,3 +40,14 @@ one_more P parts more atom e is all =
     let last : AllByRecursion P (flat_map atoms_of (plan.One atom ∷ [])) = both_hold P (atoms_of (plan.One atom)) [] (subst (AllByRecursion P) (sym (atoms_of-one atom)) (is, tt)) tt in
     subst (λ ps. AllByRecursion P (flat_map atoms_of ps)) (sym e)
     (subst (AllByRecursion P) (sym (flat_map-append atoms_of parts (plan.One atom ∷ []))) (both_hold P (flat_map atoms_of parts) (flat_map atoms_of (plan.One atom ∷ [])) all last))
+
+-- ---- a sheet
+
+pub at_place : {X : Type 0} (P : X → Type 0) (xs : List X) (i : ℕ) (x : X) → All P xs → slice_get xs i ≡ Some x → P x
+at_place P xs i x all at = subst P (get_or_from_slice_get xs i x x at) (All-get_or P xs i x (slice_get_within xs i x at) all)
+
+-- a vector is copied, and another is joined with it
+pub cost_settled : (g before copied now words work : ℕ) → copied ≡ before + words → words ≤ g → now ≤ copied + 2 * g → work ≡ 2 → now ≤ before + 2 * g * work
+cost_settled g before copied now words work h k l e =
+    let z : 2 * g * work ≡ 4 * g = ap (λ n. 2 * g * n) e ∙ grind arith in
+    omega (arith, h, k, l, z)

@@ -7,3 +7,4 @@ pub mod KnownLemmas
 pub mod PlanLemmas
 pub mod SampleLemmas
 pub mod MeaningLemmas
+pub mod HeldLemmas

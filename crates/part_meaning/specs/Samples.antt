@@ -92,6 +92,16 @@ from_4_to_7 = on_spans 0 ((pos 4, pos 7) ∷ [])
 abbrev pub below : ℕ → PlanAtom
 below n = on_spans 0 ((least_int, pos n -ℤ pos 1) ∷ [])
 
+-- `a = 5`, `a != 5` and `a >= 5`
+abbrev pub is_5 : PlanAtom
+is_5 = on_spans 0 ((pos 5, pos 5) ∷ [])
+
+abbrev pub isnt_5 : PlanAtom
+isnt_5 = on_spans 0 ((least_int, pos 4) ∷ (pos 6, greatest_int) ∷ [])
+
+abbrev pub from_5 : PlanAtom
+from_5 = on_spans 0 ((pos 5, greatest_int) ∷ [])
+
 -- `b = 1`
 abbrev pub b_is_1 : PlanAtom
 b_is_1 = on_spans 1 ((pos 1, pos 1) ∷ [])

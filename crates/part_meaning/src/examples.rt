@@ -4,13 +4,14 @@ ghost use Rattle.std.specs.Prelude.{◌≡◌, [], ◌∷◌, None, codes, false
 ghost use Rattle.index_spec.specs.declared.spec.Coarse.TheVariants as coarse;
 ghost use Rattle.index_spec.specs.declared.spec.EncodingSpec.TheVariants.{Equality, Interval, Range, TwoLevel};
 ghost use Rattle.binning.specs.declared.against_bins.Three.TheVariants.{No, Unknown, Yes};
+ghost use Rattle.wah_logic.specs.Logic.{ones};
 ghost use Rattle.where_plan.specs.declared.plan.Plan.TheVariants as plan;
 ghost use Rattle.where_plan.specs.declared.plan.PlanAtom.TheVariants as atom;
-ghost use Rattle.part_meaning.specs.Answers.{checked_in, definite_in, possible_in};
+ghost use Rattle.part_meaning.specs.Answers.{checked_in, definite_in, possible_in, rows_that_hold};
 ghost use Rattle.part_meaning.specs.Bitmaps.{bitmap_looks, bins_say, needed_of, work_of};
 ghost use Rattle.part_meaning.specs.Files.{is_bitmap_of, is_free_of, is_of_rows};
 ghost use Rattle.part_meaning.specs.Known.{known};
-ghost use Rattle.part_meaning.specs.Samples.{a_column, any_number, b_is_1, below, from_1024, from_4_to_7, from_4_to_8, is_word, isnt_word, look, null_part, pair_part, ten, ten_part, two_columns, two_part, words_column};
+ghost use Rattle.part_meaning.specs.Samples.{a_column, any_number, b_is_1, below, from_1024, from_4_to_7, from_4_to_8, from_5, is_5, is_word, isnt_5, isnt_word, look, null_part, pair_part, ten, ten_part, two_columns, two_part, words_column};
 
 /// The numbers 1 to 10 in bins below 4, from 4 to 7 and from 8 on, under the four encodings.
 pub fn the_bitmaps_of_conditions()
@@ -55,7 +56,10 @@ pub fn the_numbers_of_plans()
     ensures possible { possible_in a_column (ten_part Equality) (plan.One from_4_to_8) ≡ 7 }
     ensures checked { checked_in a_column (ten_part Equality) (plan.One from_4_to_8) ≡ 3 }
 
-    // `a in (4, 5, 6, 7)`: the bin decides it.
+    // `a < 4` and `a in (4, 5, 6, 7)`: the bins decide them.
+    ensures low_definite { definite_in a_column (ten_part Equality) (plan.One (below 4)) ≡ 3 }
+    ensures low_possible { possible_in a_column (ten_part Equality) (plan.One (below 4)) ≡ 3 }
+    ensures low { checked_in a_column (ten_part Equality) (plan.One (below 4)) ≡ 0 }
     ensures exact { checked_in a_column (ten_part Range) (plan.One from_4_to_7) ≡ 0 }
 
     // `a < 9 and b = 1`: between 0 and 1, of which one is checked.
@@ -74,6 +78,21 @@ pub fn the_numbers_of_plans()
     // `a >= 1024` over 5000 and 7 without an index, and any number of the type, which is Yes.
     ensures scanned { checked_in a_column two_part (plan.One from_1024) ≡ 2 }
     ensures whole { checked_in a_column two_part (plan.One any_number) ≡ 0 }
+{}
+
+/// On how many records plans hold. On a null each condition is false, and its denial true.
+pub fn the_records_of_plans()
+    ensures interval { ones (rows_that_hold (plan.One from_4_to_8) (ten_part Equality)) ≡ 5 }
+    ensures low { ones (rows_that_hold (plan.One (below 4)) (ten_part Equality)) ≡ 3 }
+    ensures list { ones (rows_that_hold (plan.One from_4_to_7) (ten_part Range)) ≡ 4 }
+    ensures pair { ones (rows_that_hold (plan.And (plan.One (below 9) ∷ plan.One b_is_1 ∷ [])) pair_part) ≡ 1 }
+    ensures scanned { ones (rows_that_hold (plan.One from_1024) two_part) ≡ 1 }
+
+    // 3, null and 5.
+    ensures not_below { ones (rows_that_hold (plan.Not (plan.One (below 5))) null_part) ≡ 2 }
+    ensures differs { ones (rows_that_hold (plan.One isnt_5) null_part) ≡ 1 }
+    ensures not_equal { ones (rows_that_hold (plan.Not (plan.One is_5)) null_part) ≡ 2 }
+    ensures at_least { ones (rows_that_hold (plan.One from_5) null_part) ≡ 1 }
 {}
 
 /// The words `x`, none, `yy`, `x` and `z` without an index: one bin of the codes 1 to 3.

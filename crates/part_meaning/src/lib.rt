@@ -9,6 +9,7 @@ mod laws;
 
 pub use examples::{
     the_answers_of_words, the_bitmaps_of_conditions, the_numbers_of_plans, the_reads_of_columns,
+    the_records_of_plans,
 };
 pub use laws::{
     estimates_enclose_hits, the_bins_of_columns, the_rows_of_clauses, what_is_known, what_spans_say,

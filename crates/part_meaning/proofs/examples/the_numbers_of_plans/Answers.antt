@@ -56,3 +56,15 @@ returns-clause-scanned c = checked_by 2 (two_says ((pos 1024, greatest_int) ∷ 
 pub returns-clause-whole : goal.returns-clause-whole
 unfolding checked_in known bin_says bins_in one_bin ends_in
 returns-clause-whole c = checked_by 2 (two_says ((least_int, greatest_int) ∷ []))
+
+pub returns-clause-low_definite : goal.returns-clause-low_definite
+unfolding definite_in known bin_says bins_in
+returns-clause-low_definite c = definite_by 10 (ten_says Equality ((least_int, pos 3) ∷ []))
+
+pub returns-clause-low_possible : goal.returns-clause-low_possible
+unfolding possible_in known bin_says bins_in
+returns-clause-low_possible c = possible_by 10 (ten_says Equality ((least_int, pos 3) ∷ []))
+
+pub returns-clause-low : goal.returns-clause-low
+unfolding checked_in known bin_says bins_in
+returns-clause-low c = checked_by 10 (ten_says Equality ((least_int, pos 3) ∷ []))

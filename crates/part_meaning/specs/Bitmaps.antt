@@ -18,10 +18,13 @@ use Rattle.part_meaning.specs.Known.{bin_says}
 
 -- ---- which bitmaps
 
+abbrev pub each_says : PartColumn → PlanAtom → List Three
+each_says column condition = map (bin_says column condition) (bins_in column)
+
 -- what each bin of the column says; `exists` asks none, since the mask answers it
 unfoldable pub bins_say : PartColumn → PlanAtom → List Three
-bins_say column (atom.Whole col spans) = map (bin_says column (atom.Whole col spans)) (bins_in column)
-bins_say column (atom.Word col condition) = map (bin_says column (atom.Word col condition)) (bins_in column)
+bins_say column (atom.Whole col spans) = each_says column (atom.Whole col spans)
+bins_say column (atom.Word col condition) = each_says column (atom.Word col condition)
 bins_say column (atom.Exists col) = []
 
 abbrev pub needed_under : Option Spec → PartColumn → PlanAtom → List ℕ
@@ -29,8 +32,8 @@ needed_under None column condition = []
 needed_under (Some spec) column condition =
     flat_map (λ r. needed spec.encoding (length (bins_in column)) r.first r.past) (runs_of (bins_say column condition))
 
--- the numbers of the bitmaps that the condition needs of its column, for one run of bins with one answer, Yes or Unknown, after
--- another; none without an index
+-- the numbers of the bitmaps that the condition needs of its column, run by run of the bins that are Yes or Unknown; none
+-- without an index
 unfoldable pub needed_of : PartColumn → PlanAtom → List ℕ
 needed_of column condition = needed_under column.spec column condition
 

@@ -1,4 +1,4 @@
--- Which reads of a part's files are of bitmaps, which are of files without values, and which rows a read of values has.
+-- Which reads of a part's files are of bitmaps, of files without values, and of the values of which rows.
 use Rattle.std.specs.Prelude.{ℕ, ◌+◌, ◌*◌, ◌&&◌, Bool, false, List, [], ◌∷◌, ◌++◌, Option, Some, None, nat_le, nat_lt, slice_index}
 use Rattle.std.specs.Str.{bytes_eq}
 use Rattle.std.specs.List.{list_all, list_any, range_with_len}

@@ -42,8 +42,12 @@ bin_says column (atom.Exists col) bin = Yes
 
 -- ---- a row
 
--- what is known of the condition on the row: what the row's bin says, and No where it has no value
+-- what the row's bin says, and No where the row has no value
+abbrev pub known_by_bin : PartColumn → PlanAtom → ℕ → Three
+known_by_bin column condition row = said_by (bin_says column condition) (bin_at row (bins_in column))
+
+-- what is known of the condition on the row before any value is read; whether it has one the mask tells
 unfoldable pub known : PartColumn → PlanAtom → ℕ → Three
-known column (atom.Whole col spans) row = said_by (bin_says column (atom.Whole col spans)) (bin_at row (bins_in column))
-known column (atom.Word col condition) row = said_by (bin_says column (atom.Word col condition)) (bin_at row (bins_in column))
+known column (atom.Whole col spans) row = known_by_bin column (atom.Whole col spans) row
+known column (atom.Word col condition) row = known_by_bin column (atom.Word col condition) row
 known column (atom.Exists col) row = decided (is_there (cell_of_row column row))

@@ -1,4 +1,4 @@
--- The conditions of a part: the column and the record that each is asked of, what is known of it, and the reads of bitmaps.
+-- The conditions of a part: the column and the records that they are asked of, and what is known of them.
 use Rattle.std.specs.Prelude.{ℕ, Bool, List, [], length, slice_index_or}
 use Rattle.std.specs.List.{list_any, range_with_len}
 use Rattle.fb_outside.specs.Reads.{Look}

@@ -1,4 +1,5 @@
-//! Columns and parts of a few rows, on which the definitions are computed, each on a function that does nothing.
+//! What the definitions give of columns and parts of a few rows, computed, each on a function that
+//! does nothing.
 
 ghost use Rattle.std.specs.Prelude.{◌≡◌, [], ◌∷◌, None, codes, false, true};
 ghost use Rattle.index_spec.specs.declared.spec.Coarse.TheVariants as coarse;
@@ -36,17 +37,26 @@ pub fn the_bitmaps_of_conditions()
 
 /// Which reads are of what: the bytes of rows 7 to 9 are 28 to 39.
 pub fn the_reads_of_columns()
-    ensures values { is_of_rows (codes "D") 0 (ten Equality) (7 ∷ 8 ∷ 9 ∷ []) (look (codes "D/p0000/a") 28 12) ≡ true }
-    ensures other_rows { is_of_rows (codes "D") 0 (ten Equality) (7 ∷ 9 ∷ []) (look (codes "D/p0000/a") 28 12) ≡ false }
-    ensures past { is_of_rows (codes "D") 0 (ten Equality) (7 ∷ 8 ∷ 9 ∷ []) (look (codes "D/p0000/a") 28 13) ≡ false }
-    ensures mask { is_free_of (codes "D") 0 (ten Equality) (look (codes "D/p0000/a.msk") 0 12) ≡ true }
-    ensures no_values { is_free_of (codes "D") 0 (ten Equality) (look (codes "D/p0000/a") 28 4) ≡ false }
+    ensures values { is_of_rows (codes "D") 0 (ten Equality) (7 ∷ 8 ∷ 9 ∷ [])
+        (look (codes "D/p0000/a") 28 12) ≡ true }
+    ensures other_rows { is_of_rows (codes "D") 0 (ten Equality) (7 ∷ 9 ∷ [])
+        (look (codes "D/p0000/a") 28 12) ≡ false }
+    ensures past { is_of_rows (codes "D") 0 (ten Equality) (7 ∷ 8 ∷ 9 ∷ [])
+        (look (codes "D/p0000/a") 28 13) ≡ false }
+    ensures mask { is_free_of (codes "D") 0 (ten Equality)
+        (look (codes "D/p0000/a.msk") 0 12) ≡ true }
+    ensures no_values { is_free_of (codes "D") 0 (ten Equality)
+        (look (codes "D/p0000/a") 28 4) ≡ false }
 
     // Only a category has a file of words.
-    ensures no_words { is_free_of (codes "D") 0 (ten Equality) (look (codes "D/p0000/a.dic") 0 4) ≡ false }
-    ensures words { is_free_of (codes "D") 0 (words_column None) (look (codes "D/p0000/c.dic") 0 4) ≡ true }
-    ensures head { is_bitmap_of (codes "D") 0 (ten Equality) (look (codes "D/p0000/a.idx") 24 171) ≡ false }
-    ensures bitmap { is_bitmap_of (codes "D") 0 (ten Equality) (look (codes "D/p0000/a.idx") 195 12) ≡ true }
+    ensures no_words { is_free_of (codes "D") 0 (ten Equality)
+        (look (codes "D/p0000/a.dic") 0 4) ≡ false }
+    ensures words { is_free_of (codes "D") 0 (words_column None)
+        (look (codes "D/p0000/c.dic") 0 4) ≡ true }
+    ensures head { is_bitmap_of (codes "D") 0 (ten Equality)
+        (look (codes "D/p0000/a.idx") 24 171) ≡ false }
+    ensures bitmap { is_bitmap_of (codes "D") 0 (ten Equality)
+        (look (codes "D/p0000/a.idx") 195 12) ≡ true }
 {}
 
 /// The bounds of estimates and the numbers of checks.
@@ -85,7 +95,8 @@ pub fn the_records_of_plans()
     ensures interval { ones (rows_that_hold (plan.One from_4_to_8) (ten_part Equality)) ≡ 5 }
     ensures low { ones (rows_that_hold (plan.One (below 4)) (ten_part Equality)) ≡ 3 }
     ensures list { ones (rows_that_hold (plan.One from_4_to_7) (ten_part Range)) ≡ 4 }
-    ensures pair { ones (rows_that_hold (plan.And (plan.One (below 9) ∷ plan.One b_is_1 ∷ [])) pair_part) ≡ 1 }
+    ensures pair { ones (rows_that_hold
+        (plan.And (plan.One (below 9) ∷ plan.One b_is_1 ∷ [])) pair_part) ≡ 1 }
     ensures scanned { ones (rows_that_hold (plan.One from_1024) two_part) ≡ 1 }
 
     // 3, null and 5.

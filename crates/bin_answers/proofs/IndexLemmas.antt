@@ -14,16 +14,22 @@ use Rattle.index_spec.specs.declared.spec.EncodingSpec.TheVariants.{Equality, Ra
 use Rattle.index_spec.specs.declared.spec.Spec.{Spec}
 use Rattle.index_spec.proofs.Laws.{spelled-spec_of}
 use Rattle.index_spec.proofs.MembersLemmas.{kept}
+use Rattle.index_file.specs.declared.edge.Edge.{Edge}
 use Rattle.index_file.specs.declared.head.IndexHead.{IndexHead}
+use Rattle.wah_logic.specs.Logic.{groups_and_rest}
+use Rattle.binning.specs.Against.{against}
+use Rattle.binning.specs.declared.span_lists.Span.{Span}
 use Rattle.binning.specs.Encodings.{HasCount, levels, vectors}
 use Rattle.binning.specs.Members.{AreFetched, bitmap, in_run, union_of}
 use Rattle.binning.specs.declared.against_bins.Three.{Three}
 use Rattle.binning.specs.declared.against_bins.Three.TheVariants.{Yes, No, Unknown}
 use Rattle.binning.specs.declared.gathering.Bin.{Bin}
 use Rattle.bin_answers.specs.BinRuns.{is_same}
-use Rattle.bin_answers.specs.Bins.{edge_of, rows_of_runs}
-use Rattle.bin_answers.specs.Fetched.{HasBins, needed_by}
+use Rattle.bin_answers.specs.Bins.{edge_of, edges_say, rows_of_runs}
+use Rattle.bin_answers.specs.Fetched.{HasBins, StopsIn, needed_by, needed_on, runs_on}
 use Rattle.bin_answers.specs.declared.bin_runs.BinRun.{BinRun}
+use Rattle.bin_answers.specs.declared.fault.BinsFault.{BinsFault}
+use Rattle.bin_answers.proofs.RunLemmas.{runs_within}
 use Rattle.bin_answers.proofs.FetchLemmas.{all_more, cut, taken_more}
 
 -- ---- the encoding
@@ -81,7 +87,6 @@ needed_cut head runs i d l =
     let of_run = λ (r : BinRun). needed head.spec.encoding (length head.bins) r.first r.past in
     ap (flat_map of_run) (cut runs i d l) ∙ flat_map-append of_run (take i runs) (get_or runs i d ∷ [] ++ drop (i + 1) runs)
     ∙ ap (λ l. flat_map of_run (take i runs) ++ l) (flat_map-append of_run (get_or runs i d ∷ []) (drop (i + 1) runs))
-
 
 rows_one : (rows : ℕ) (bins : List Bin) (a : Three) (r : BinRun) (t : Bool) → is_same a r.answer ≡ t
     → rows_of_runs rows bins a (r ∷ []) ≡ cond t (union_of rows (in_run r.first r.past) (vectors bins) ∷ []) []
@@ -162,7 +167,7 @@ some_steps g n r a b k =
 -- ---- all runs
 
 all_joined : (places : ℕ) (xs ys : List ℕ) → All (λ k. k + 1 < places) xs → All (λ k. k + 1 < places) ys → All (λ k. k + 1 < places) (xs ++ ys)
-all_joined places [] ys h k = k
+all_joined places [] ys h k i d l = k i d l
 all_joined places (x ∷ xs) ys h k zero d l = h 0 d (omega arith)
 all_joined places (x ∷ xs) ys h k (suc i) d l = all_joined places xs ys (λ j e m. h (suc j) e (omega arith)) k i d (omega arith)
 
@@ -187,3 +192,38 @@ steps_cut head runs i d g a b c l h k =
     ap length (needed_cut head runs i d l) ∙ length-append front (one ++ rest) ∙ ap (λ n. length front + n) (length-append one rest) in
     within_steps g (length front + length one) (length (needed_by head runs)) (i + 1) (length runs) a c (omega (arith, size)) (omega (arith, l))
     (more_steps g (length front) (length one) (length front + length one) i a b c refl h k)
+
+-- the numbers that an encoding gives are those of the specification
+pub numbers_are : (e : EncodingSpec) (spec : Spec) (seen bins : List Edge) (i j : ℕ) (ns items : List ℕ) → ns ≡ items → items ≡ needed e (length seen) i j → e ≡ spec.encoding → seen ≡ bins
+    → ns ≡ needed spec.encoding (length bins) i j
+numbers_are e spec seen bins i j ns items h is same all =
+    h ∙ is ∙ ap (λ (x : EncodingSpec). needed x (length seen) i j) same ∙ ap (λ (l : List Edge). needed spec.encoding (length l) i j) all
+
+-- ---- the runs of an index's bins
+
+pub stop_runs : (files : Option Files) (head : IndexHead) (runs all : List BinRun) (fault : BinsFault) → runs ≡ all → StopsIn files head (needed_by head runs) fault
+    → StopsIn files head (needed_by head all) fault
+stop_runs files head runs all fault e h = subst (λ (rs : List BinRun). StopsIn files head (needed_by head rs) fault) e h
+
+pub head_within : (head : IndexHead) (spans : List Span) → All (λ r. (r.first < r.past) × (r.past ≤ length head.bins)) (runs_on head spans)
+head_within head spans =
+    subst (λ (n : ℕ). All (λ r. (r.first < r.past) × (r.past ≤ n)) (runs_on head spans)) (length-map head.bins (λ (edge : Edge). against edge.least edge.greatest spans))
+    (runs_within (edges_say head.bins spans))
+
+-- the bitmaps that a condition needs are there
+pub head_below : (head : IndexHead) (spans : List Span) → spec_of (printed head.spec) ≡ Ok head.spec → bitmap_count head.spec.encoding (length head.bins) ≡ Some (length head.offsets - 1)
+    → All (λ k. k + 1 < length head.offsets) (needed_on head spans)
+head_below head spans given counted = all_below head.spec (length head.bins) (length head.offsets) (runs_on head spans) given counted (head_within head spans)
+
+pub found_steps : (head : IndexHead) (runs all : List BinRun) (g a b : ℕ) → runs ≡ all → b ≤ a + 2 * g * (length (needed_by head runs) + 2 * length runs)
+    → b ≤ a + 2 * g * (4 * (length (needed_by head all) + length all))
+found_steps head runs all g a b e h =
+    subst (λ (rs : List BinRun). b ≤ a + 2 * g * (4 * (length (needed_by head rs) + length rs))) e (some_steps g (length (needed_by head runs)) (length runs) a b h)
+
+pub settled_steps : (head : IndexHead) (runs all : List BinRun) (len rows d u a b c : ℕ) → runs ≡ all → rows ≡ len → d + u ≤ length runs
+    → b ≤ a + 2 * groups_and_rest len * (length (needed_by head runs) + 2 * length runs) → c ≤ b + 2 * groups_and_rest rows * (d + 2 * u)
+    → c ≤ a + 2 * groups_and_rest len * (4 * (length (needed_by head all) + length all))
+settled_steps head runs all len rows d u a b c e same few h k =
+    subst (λ (rs : List BinRun). c ≤ a + 2 * groups_and_rest len * (4 * (length (needed_by head rs) + length rs))) e
+    (all_steps (groups_and_rest len) (length (needed_by head runs)) (length runs) d u a b c few h
+    (subst (λ (n : ℕ). c ≤ b + 2 * groups_and_rest n * (d + 2 * u)) same k))

@@ -3,3 +3,4 @@ pub mod RowLemmas
 pub mod FetchLemmas
 pub mod IndexLemmas
 pub mod EdgeLemmas
+pub mod WrittenLemmas

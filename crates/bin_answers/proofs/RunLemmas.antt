@@ -255,15 +255,14 @@ maximal_first x bin high (r ∷ []) h m =
     refl
 maximal_first x bin high (r ∷ s ∷ rs) h m =
     elim (is_same x r.answer && eqb r.first (bin + 1)) as (λ t. (is_same x r.answer && eqb r.first (bin + 1)) ≡ t → AreMaximal (cond t (run x bin r.past ∷ s ∷ rs) (run x bin (bin + 1) ∷ r ∷ s ∷ rs))) [
-      | true ↦ λ e.
-          (
-            omega (arith, h.0.low_end, h.0.some),
-            record {
-              later = m.1.later;
-              apart = λ same. ap (λ (b : Three). is_same b s.answer) (same_is x r.answer (and_true (is_same x r.answer) (eqb r.first (bin + 1)) e).0) ∙ m.1.apart same;
-            },
-            m.2,
-          )
+      | true ↦ λ e. (
+        omega (arith, h.0.low_end, h.0.some),
+        record {
+          later = m.1.later;
+          apart = λ same. ap (λ (b : Three). is_same b s.answer) (same_is x r.answer (and_true (is_same x r.answer) (eqb r.first (bin + 1)) e).0) ∙ m.1.apart same;
+        },
+        m.2,
+      )
       | false ↦ λ e. (omega arith, follows_first x bin high r h.0 e, m)
     ]
     refl

@@ -1,3 +1,4 @@
 pub mod BinRuns
 pub mod Bins
 pub mod Fetched
+pub mod Written

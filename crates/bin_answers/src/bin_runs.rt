@@ -1,7 +1,8 @@
 //! The runs of neighbouring bins that answer a condition alike.
 
-ghost use Rattle.std.specs.Prelude.{◌≡◌, ◌+◌, ◌^◌, ◌<◌, ◌≤◌, All, IfOk, None, OnOk, length};
+ghost use Rattle.std.specs.Prelude.{◌≡◌, ◌+◌, ◌^◌, ◌<◌, ◌≤◌, ◌≤ℤ◌, All, IfOk, None, OnOk, length};
 ghost use Rattle.index_file.specs.Order.{first_out_of_order};
+ghost use Rattle.binning.specs.Against.{against};
 ghost use Rattle.bin_answers.specs.BinRuns.{runs_of, with_bin};
 ghost use Rattle.bin_answers.specs.Bins.{edges_say};
 
@@ -30,10 +31,18 @@ pub(crate) fn bin_runs(
 {
     let mut runs = Vec::new(alloc);
     for (place, edge) in bins.iter().enumerate() {
-        let answer = against(edge.least, edge.greatest, spans);
+        let answer = answer_of(*edge, spans);
         extend(&mut runs, place as u32, answer)?;
     }
     Ok(runs)
+}
+
+/// What a bin says of a condition by spans.
+fn answer_of(bin: Edge, spans: &Spans) -> Three
+    requires { bin.least ≤ℤ bin.greatest }
+    ensures { result ≡ against bin.least bin.greatest spans.now }
+{
+    against(bin.least, bin.greatest, spans)
 }
 
 /// Puts a bin behind the runs of those before it: the last of these goes on where it ends at this bin and has its answer. A

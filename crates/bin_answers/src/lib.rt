@@ -13,6 +13,10 @@ mod open_index;
 mod run_rows;
 
 pub use fault::BinsFault;
-pub use laws::runs_of_bins;
+pub use laws::{runs_of_bins, written_indexes_have_their_bins};
 pub use open_index::OpenIndex;
 
+#[cfg(test)]
+mod sample_indexes;
+#[cfg(test)]
+mod tests;

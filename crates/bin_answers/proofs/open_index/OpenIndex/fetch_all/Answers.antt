@@ -70,7 +70,7 @@ returns-in_err-bitmap-clause-reads g c =
     let i = c.loop-k.k-index in
     let numbers = c.args.numbers.now in
     let l : i < length numbers = omega (arith, c.loop-k-test.true) in
-    rw (p.1, p.2)
+    rw p.1
     (fetches_more _ _ _ _ _ _ _ c.args.self.now.head (take i numbers) (get_or numbers i 0 ∷ []) (drop (i + 1) numbers) numbers c.loop-k.invariant.kept (cut numbers i 0 l) (λ e. absurd cc) (λ e. absurd cc)
     c.loop-k.invariant.reads c.in_err-bitmap.ensures.reads)
 

@@ -11,6 +11,20 @@ use Rattle.bin_answers.proofs.FetchLemmas.{cause_from, fetches_less, fetches_mor
 use Rattle.bin_answers.proofs.IndexLemmas.{count_more, long_more, more_steps, needed_cut, needed_more, runs_more, steps_cut, within_steps}
 use Rattle.bin_answers.proofs.open_index.OpenIndex.rows_of_all.Goals as goal
 
+pub loop-run-init : goal.loop-run-init
+loop-run-init g c = record {
+  unfailed = refl;
+  kept = refl;
+  sound = sound_none _ c.args.self.now.head;
+  reads = fetches_none _ _ _ c.args.self.now.head refl;
+  definite_long = rw c.new.ensures.items (λ k d l. absurd (omega arith));
+  unknown_long = rw c.new-2.ensures.items (λ k d l. absurd (omega arith));
+  count = let none = ap length c.new.ensures.items in let also = ap length c.new-2.ensures.items in omega (arith, none, also);
+  steps = omega arith;
+  definite = λ bins h. c.new.ensures.items;
+  unknown = λ bins h. c.new-2.ensures.items;
+}
+
 pub loop-run-preserved : goal.loop-run-preserved
 loop-run-preserved g c =
     let i = c.loop-run.run-index in
@@ -71,12 +85,12 @@ returns-clause-unknown g c = λ bins h.
 
 pub returns-in_err-rows-clause-cause : goal.returns-in_err-rows-clause-cause
 returns-in_err-rows-clause-cause g c =
-    let p = err_from_is_err_and c.from_residual-in_err-rows.result c.from_residual-in_err-rows.ensures.1 in
+    let p = err_from_is_err_and c.from_residual.result c.from_residual.ensures.1 in
     rw (p.1, p.2) (cause_from _ _ _ _ _ _ _ c.loop-run.invariant.unfailed c.in_err-rows.ensures.cause)
 
 pub returns-in_err-rows-clause-exact : goal.returns-in_err-rows-clause-exact
 returns-in_err-rows-clause-exact g c =
-    let p = err_from_is_err_and c.from_residual-in_err-rows.result c.from_residual-in_err-rows.ensures.1 in
+    let p = err_from_is_err_and c.from_residual.result c.from_residual.ensures.1 in
     let i = c.loop-run.run-index in
     let runs = c.args.runs.now in
     let head = c.args.self.now.head in
@@ -88,13 +102,13 @@ returns-in_err-rows-clause-exact g c =
 
 pub returns-in_err-rows-clause-reads : goal.returns-in_err-rows-clause-reads
 returns-in_err-rows-clause-reads g c =
-    let p = err_from_is_err_and c.from_residual-in_err-rows.result c.from_residual-in_err-rows.ensures.1 in
+    let p = err_from_is_err_and c.from_residual.result c.from_residual.ensures.1 in
     let i = c.loop-run.run-index in
     let runs = c.args.runs.now in
     let head = c.args.self.now.head in
     let none : BinRun = run Yes 0 0 in
     let l : i < length runs = omega (arith, c.loop-run-test.true) in
-    rw (p.1, p.2)
+    rw p.1
     (fetches_more _ _ _ _ _ _ _ head (needed_by head (take i runs)) (needed_by head (get_or runs i none ∷ [])) (needed_by head (drop (i + 1) runs)) (needed_by head runs) c.loop-run.invariant.kept
     (needed_cut head runs i none l) (λ e. absurd cc) (λ e. absurd cc) c.loop-run.invariant.reads c.in_err-rows.ensures.reads)
 

@@ -1,4 +1,4 @@
-use Rattle.std.proofs.Common.{◌≡◌, ◌+◌, ◌*◌, ◌≤◌, ℕ, List, All, length, refl, ap, sym, subst, ◌∙◌, arith}
+use Rattle.std.proofs.Common.{◌≡◌, ◌+◌, ◌*◌, ◌<◌, ◌≤◌, ℕ, List, All, length, refl, ap, sym, subst, ◌∙◌, arith}
 use Rattle.std.proofs.lemmas.Result.{err_from_is_err_and}
 use Rattle.wah_logic.specs.Logic.{groups_and_rest, union}
 use Rattle.binning.specs.declared.against_bins.Three.TheVariants.{Unknown, Yes}
@@ -12,7 +12,7 @@ use Rattle.bin_answers.specs.declared.bin_runs.BinRun.{BinRun}
 use Rattle.bin_answers.specs.declared.fault.BinsFault.{BinsFault}
 use Rattle.bin_answers.specs.declared.fault.BinsFault.TheVariants.{OutOfMemory}
 use Rattle.bin_answers.proofs.FetchLemmas.{bins_outside, fetches_less, fetches_yet, stop_memory}
-use Rattle.bin_answers.proofs.IndexLemmas.{all_below, all_steps, some_steps}
+use Rattle.bin_answers.proofs.IndexLemmas.{found_steps, head_below, head_within, settled_steps, stop_runs}
 use Rattle.bin_answers.proofs.RowLemmas.{answers_long, bins_answer}
 use Rattle.bin_answers.proofs.open_index.OpenIndex.settle.Goals as goal
 
@@ -50,3 +50,80 @@ returns-clause-answers g c = λ bins h.
     ∙ bins_answer rows c.args.spans.now head.bins bins found.definite.items found.unknown.items h.ends h.apart
     (c.in_ok-found.ensures.definite bins h ∙ ap (rows_of_runs rows bins Yes) same)
     (c.in_ok-found.ensures.unknown bins h ∙ ap (rows_of_runs rows bins Unknown) same))
+
+pub rows_of_all-requires : goal.rows_of_all-requires
+rows_of_all-requires g c =
+    let head = c.args.self.now.head in
+    let same = found_runs head.bins _ c.args.spans.now _ _ c.deref.ensures.value c.in_ok-runs.ensures.runs c.as_slice.ensures in
+    subst (λ (rs : List BinRun). All (λ r. (r.first < r.past) × (r.past ≤ length head.bins)) rs) (sym same) (head_within head c.args.spans.now)
+
+pub returns-clause-steps : goal.returns-clause-steps
+returns-clause-steps g c =
+    let head = c.args.self.now.head in
+    let spans = c.args.spans.now in
+    let same = found_runs head.bins _ spans _ _ c.deref.ensures.value c.in_ok-runs.ensures.runs c.as_slice.ensures in
+    settled_steps head _ (runs_on head spans) (length c.args.self.now.mask) c.len.result _ _ _ _ _ same c.len.ensures.length c.in_ok-found.ensures.count c.in_ok-found.ensures.steps
+    c.in_ok-answers.ensures.steps
+
+pub returns-in_err-answers-clause-steps : goal.returns-in_err-answers-clause-steps
+returns-in_err-answers-clause-steps g c =
+    let head = c.args.self.now.head in
+    let spans = c.args.spans.now in
+    let same = found_runs head.bins _ spans _ _ c.deref.ensures.value c.in_ok-runs.ensures.runs c.as_slice.ensures in
+    settled_steps head _ (runs_on head spans) (length c.args.self.now.mask) c.len.result _ _ _ _ _ same c.len.ensures.length c.in_ok-found.ensures.count c.in_ok-found.ensures.steps
+    c.in_err-answers.ensures.steps
+
+pub returns-in_err-found-clause-steps : goal.returns-in_err-found-clause-steps
+returns-in_err-found-clause-steps g c =
+    let head = c.args.self.now.head in
+    let spans = c.args.spans.now in
+    let same = found_runs head.bins _ spans _ _ c.deref.ensures.value c.in_ok-runs.ensures.runs c.as_slice.ensures in
+    found_steps head _ (runs_on head spans) (groups_and_rest (length c.args.self.now.mask)) _ _ same c.in_err-found.ensures.steps
+
+pub returns-in_err-runs-clause-exact : goal.returns-in_err-runs-clause-exact
+returns-in_err-runs-clause-exact g c =
+    let p = err_from_is_err_and c.from_residual.result c.from_residual.ensures.1 in
+    rw p.1 (stop_memory _ c.args.self.now.head (needed_on c.args.self.now.head c.args.spans.now) p.0 p.2)
+
+pub returns-in_err-runs-clause-reads : goal.returns-in_err-runs-clause-reads
+returns-in_err-runs-clause-reads g c =
+    let p = err_from_is_err_and c.from_residual.result c.from_residual.ensures.1 in
+    rw p.1 (fetches_yet _ _ _ c.args.self.now.head (needed_on c.args.self.now.head c.args.spans.now) refl (λ e. absurd cc))
+
+pub returns-in_err-found-clause-exact : goal.returns-in_err-found-clause-exact
+returns-in_err-found-clause-exact g c =
+    let p = err_from_is_err_and c.from_residual-in_err-found.result c.from_residual-in_err-found.ensures.1 in
+    let head = c.args.self.now.head in
+    let spans = c.args.spans.now in
+    let same = found_runs head.bins _ spans _ _ c.deref.ensures.value c.in_ok-runs.ensures.runs c.as_slice.ensures in
+    rw (p.1, p.2) (stop_runs _ head _ (runs_on head spans) _ same c.in_err-found.ensures.exact)
+
+pub returns-in_err-found-clause-reads : goal.returns-in_err-found-clause-reads
+returns-in_err-found-clause-reads g c =
+    let p = err_from_is_err_and c.from_residual-in_err-found.result c.from_residual-in_err-found.ensures.1 in
+    let head = c.args.self.now.head in
+    let spans = c.args.spans.now in
+    let same = found_runs head.bins _ spans _ _ c.deref.ensures.value c.in_ok-runs.ensures.runs c.as_slice.ensures in
+    rw p.1 (fetches_less _ _ _ _ _ head _ (needed_on head spans) (ap (needed_by head) (sym same)) (λ e. absurd cc) c.in_err-found.ensures.reads)
+
+pub returns-in_err-found-clause-whole : goal.returns-in_err-found-clause-whole
+returns-in_err-found-clause-whole g c =
+    let p = err_from_is_err_and c.from_residual-in_err-found.result c.from_residual-in_err-found.ensures.1 in
+    let head = c.args.self.now.head in
+    let spans = c.args.spans.now in
+    let same = found_runs head.bins _ spans _ _ c.deref.ensures.value c.in_ok-runs.ensures.runs c.as_slice.ensures in
+    rw (p.1, p.2)
+    (λ bins h. bins_outside _ head c.args.self.now.mask bins (needed_on head spans) _ h (head_below head spans head.given head.counted) (stop_runs _ head _ (runs_on head spans) _ same c.in_err-found.ensures.exact))
+
+pub returns-in_err-answers-clause-exact : goal.returns-in_err-answers-clause-exact
+returns-in_err-answers-clause-exact g c =
+    let p = err_from_is_err_and c.from_residual-in_err-answers.result c.from_residual-in_err-answers.ensures.1 in
+    rw p.1 (stop_memory _ c.args.self.now.head (needed_on c.args.self.now.head c.args.spans.now) p.0 p.2)
+
+pub returns-in_err-answers-clause-reads : goal.returns-in_err-answers-clause-reads
+returns-in_err-answers-clause-reads g c =
+    let p = err_from_is_err_and c.from_residual-in_err-answers.result c.from_residual-in_err-answers.ensures.1 in
+    let head = c.args.self.now.head in
+    let spans = c.args.spans.now in
+    let same = found_runs head.bins _ spans _ _ c.deref.ensures.value c.in_ok-runs.ensures.runs c.as_slice.ensures in
+    rw p.1 (fetches_less _ _ _ _ _ head _ (needed_on head spans) (ap (needed_by head) (sym same)) (λ e. absurd cc) c.in_ok-found.ensures.reads)

@@ -8,3 +8,4 @@ pub mod PlanLemmas
 pub mod SampleLemmas
 pub mod MeaningLemmas
 pub mod HeldLemmas
+pub mod FetchLemmas

@@ -1,6 +1,6 @@
 //! Laws of what is known of conditions, each on a function that does nothing.
 
-ghost use Rattle.std.specs.Prelude.{◌≡◌, ◌≤◌, ◌≤ℤ◌, ℕ, ℤ, pos, List, None, Option, Some, IsSome, length, map};
+ghost use Rattle.std.specs.Prelude.{◌≡◌, ◌≤◌, ◌≤ℤ◌, ℕ, ℤ, pos, List, None, Option, Some, IsSome, All, length, map, true};
 ghost use Rattle.fb_types.specs.Types.{width_of};
 ghost use Rattle.fb_types.specs.declared.schemas.Column.{Column};
 ghost use Rattle.binning.specs.Against.{against};
@@ -17,15 +17,19 @@ ghost use Rattle.where_plan.specs.Plans.{FitsColumn, FitsSchema, IsPlan};
 ghost use Rattle.where_plan.specs.PlanHolds.{is_asked_for};
 ghost use Rattle.where_plan.specs.SpansOf.{AreSpansOf, code_meets, code_range};
 ghost use Rattle.where_plan.specs.declared.plan.Plan.{Plan};
+ghost use Rattle.where_plan.specs.declared.plan.PlanAtom.{PlanAtom};
 ghost use Rattle.where_plan.specs.declared.plan.PlanAtom.TheVariants as atom;
 ghost use Rattle.three_valued.specs.Tables.{undecided};
 ghost use Rattle.stages.specs.Meaning.{IsMeaningOf};
 ghost use Rattle.world.specs.World.{IsPartition, Partition};
 ghost use Rattle.part_meaning.specs.Answers.{definite_in, possible_in, rows_that_hold};
 ghost use Rattle.bin_answers.specs.Bins.{bin_at};
+ghost use Rattle.part_meaning.specs.Bitmaps.{bitmap_looks};
 ghost use Rattle.part_meaning.specs.Columns.{bins_in, cell_of_row, column_at, number_of_row, present_rows};
+ghost use Rattle.part_meaning.specs.Files.{is_free_of};
 ghost use Rattle.part_meaning.specs.Known.{between, known, over};
 ghost use Rattle.part_meaning.specs.Meaning.{meaning_of};
+ghost use Rattle.part_meaning.specs.Parts.{column_for, is_bitmap_in};
 
 /// What spans say of a range is what they say of each number there: Yes where they have all, No where they have none. So the
 /// spans of the codes of a condition on words say what the words of these codes do.
@@ -62,6 +66,15 @@ pub fn what_is_known()
         → IsPartition schema part → width_of (column_at schema part col).ty ≡ None
         → known (column_at schema part col) (atom.Word col condition) row
         ≡ undecided (is_there (cell_of_row (column_at schema part col) row)) }
+{}
+
+/// The reads of the bitmaps that a condition needs are each of a bitmap, in a file of the condition's column that has none of
+/// its values.
+pub fn the_reads_of_bitmaps()
+    ensures { (dir : List ℕ) (schema : List Column) (part : Partition) (condition : PlanAtom) → IsPartition schema part
+        → All (λ look. (is_bitmap_in dir schema part look ≡ true)
+        × (is_free_of dir part.number (column_for schema part condition) look ≡ true))
+        (bitmap_looks dir part.number (column_for schema part condition) condition) }
 {}
 
 /// The two numbers of an estimate enclose the number of the part's records that the plan holds of.

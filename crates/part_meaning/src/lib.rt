@@ -12,5 +12,6 @@ pub use examples::{
     the_records_of_plans,
 };
 pub use laws::{
-    estimates_enclose_hits, the_bins_of_columns, the_rows_of_clauses, what_is_known, what_spans_say,
+    estimates_enclose_hits, the_bins_of_columns, the_reads_of_bitmaps, the_rows_of_clauses,
+    what_is_known, what_spans_say,
 };

@@ -1,0 +1,11 @@
+pub mod RangeLemmas
+pub mod BinLemmas
+pub mod CodeLemmas
+pub mod ColumnLemmas
+pub mod UnionLemmas
+pub mod KnownLemmas
+pub mod PlanLemmas
+pub mod SampleLemmas
+pub mod MeaningLemmas
+pub mod HeldLemmas
+pub mod FetchLemmas

@@ -2,6 +2,7 @@
 //! two vectors have words. Nothing here expands a vector.
 #![tactic(auto)]
 
+mod groups;
 mod has_rows;
 mod lockstep;
 mod logic;

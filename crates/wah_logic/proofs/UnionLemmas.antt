@@ -17,7 +17,7 @@ or_false : (x : Bool) → or x false ≡ x
 or_false true = refl
 or_false false = refl
 
-each_or_assoc : (a b c : List Bool) → length a ≡ length b → length b ≡ length c → each_place or (each_place or a b) c ≡ each_place or a (each_place or b c)
+pub each_or_assoc : (a b c : List Bool) → length a ≡ length b → length b ≡ length c → each_place or (each_place or a b) c ≡ each_place or a (each_place or b c)
 unfolding each_place
 each_or_assoc [] b c h k = refl
 each_or_assoc (x ∷ a) [] c h k = absurd (omega arith)
@@ -31,7 +31,7 @@ each_zeros_left zero (x ∷ v) h = absurd (omega arith)
 each_zeros_left (suc n) [] h = absurd (omega arith)
 each_zeros_left (suc n) (x ∷ v) h = ap (λ l. x ∷ l) (each_zeros_left n v (omega arith))
 
-each_zeros_right : (n : ℕ) (v : List Bool) → length v ≡ n → each_place or v (replicate n false) ≡ v
+pub each_zeros_right : (n : ℕ) (v : List Bool) → length v ≡ n → each_place or v (replicate n false) ≡ v
 unfolding each_place
 each_zeros_right zero [] h = refl
 each_zeros_right zero (x ∷ v) h = absurd (omega arith)

@@ -35,13 +35,21 @@ impl Model for Groups {
     ghost invariant = { λ s. AreGroups s.whole.items s.rest s.tail };
 }
 
+/// So many groups that are all false.
+fn zero_groups(alloc: Global, count: usize) -> Result<Vec<u32>, AllocError>
+    ensures { IfOk result (λ v. v.items ≡ replicate count 0) }
+{
+    let groups = vec![in alloc; 0u32; count]?;
+    Ok(groups)
+}
+
 impl Groups {
     /// So many values that are false.
     pub(crate) fn zeros(alloc: Global, len: u32) -> Result<Groups, AllocError>
         requires { len ≤ most_bits }
         ensures { IfOk result (λ v. v ≡ replicate len false) }
     {
-        let whole = vec![in alloc; 0u32; (len / 31) as usize]?;
+        let whole = zero_groups(alloc, (len / 31) as usize)?;
         Ok(Groups {
             whole,
             rest: len % 31,

@@ -251,3 +251,6 @@ pub no_rest : (v : List Bool) (rest tail : ℕ) → rest ≤ 0 → v ≡ v ++ pl
 unfolding places
 no_rest v zero tail h = sym (append-nil v)
 no_rest v (suc rest) tail h = absurd (omega arith)
+
+pub front_end : (gs : List ℕ) (i : ℕ) → length gs ≤ i → length (flat_map (places 31) (take i gs)) ≡ 31 * length gs
+front_end gs i h = ap (λ l. length (flat_map (places 31) l)) (take_all i gs h) ∙ length-groups gs

@@ -17,7 +17,7 @@ loop-run-preserved g c =
     let t : Comes c.loop-run.cursor (Some run) c.advance.new.self = subst (λ x. Comes c.loop-run.cursor x c.advance.new.self) c.in-Some.is c.advance.ensures.comes in
     record {
       gathers = rw c.or_run-group.ensures.after (gathers_run c.args.self.now c.args.vector.now c.loop-run.self c.loop-run.cursor.values c.advance.new.self.values c.or_run-group.new.self c.loop-run.group run c.loop-run.invariant.gathers t.0 (part_of run c.advance.new.self t.2) c.or_run-group.ensures.values);
-      steps = ?;
+      steps = omega (arith, c.in-Some.ensures.steps, t.1, c.loop-run.invariant.steps);
     }
 
 pub returns-clause-values : goal.returns-clause-values

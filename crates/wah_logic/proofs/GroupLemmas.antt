@@ -1,5 +1,5 @@
 -- What is or-ed into groups.
-use Rattle.std.proofs.Common.{◌≡◌, ℕ, zero, suc, ◌+◌, ◌-◌, ◌*◌, ◌/◌, ◌%◌, ◌^◌, ◌<◌, ◌≤◌, Bool, true, false, List, [], ◌∷◌, ◌++◌, length, take, drop, set, get_or, replicate, refl, sym, ap, subst, ◌∙◌, arith, append_assoc, length-append}
+use Rattle.std.proofs.Common.{◌≡◌, ℕ, zero, suc, ◌+◌, ◌-◌, ◌*◌, ◌/◌, ◌%◌, ◌<◌, ◌≤◌, Bool, true, false, List, [], ◌∷◌, ◌++◌, length, take, drop, set, get_or, replicate, refl, sym, ap, subst, ◌∙◌, arith, append_assoc, length-append}
 use Rattle.std.specs.List.{flat_map}
 use Rattle.std.proofs.lemmas.List.{length-replicate, replicate-append-replicate, take-append-drop, drop_more, append-nil, length-take-le, take_more, take_all}
 use Rattle.std.proofs.lemmas.Grind.{flat_map-append}
@@ -10,7 +10,7 @@ use Rattle.wah_words.specs.Left.{Left, run_values, IsRun}
 use Rattle.wah_words.proofs.PlacesLemmas.{length-places, places-zeros, places-ones}
 use Rattle.wah_logic.specs.Logic.{each_place, or}
 use Rattle.wah_logic.specs.Rest.{IsPart}
-use Rattle.wah_logic.specs.Groups.{group_values, alone_at, or_at, StandsAt, group_after}
+use Rattle.wah_logic.specs.Groups.{group_values, or_at, StandsAt, group_after}
 use Rattle.wah_logic.proofs.JoinLemmas.{each_append, length-each}
 use Rattle.wah_logic.proofs.UnionLemmas.{each_or_assoc, each_zeros_left, each_zeros_right}
 use Rattle.wah_logic.proofs.WalkLemmas.{run_length, length-run_values}

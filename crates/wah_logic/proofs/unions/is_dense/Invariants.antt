@@ -1,5 +1,5 @@
 use Rattle.std.proofs.Common.{◌≡◌, ◌+◌, map, drop}
-use Rattle.wah_logic.specs.Logic.{groups_and_rest, words_in}
+use Rattle.wah_logic.specs.Logic.{words_in}
 use Rattle.wah_logic.proofs.unions.is_dense.Given as goal
 
 abbrev pub invariant-loop-vector : goal.invariant-loop-vector

@@ -1,4 +1,4 @@
-use Rattle.std.proofs.Common.{◌≡◌, ◌+◌, map, drop, length, refl, sym, ap, subst, ◌∙◌, arith, IfOk}
+use Rattle.std.proofs.Common.{◌≡◌, map, length, refl, sym, ap, subst, ◌∙◌, arith, IfOk}
 use Rattle.wah_words.specs.Spelling.{words_of}
 use Rattle.wah_logic.specs.Logic.{union}
 use Rattle.wah_logic.proofs.UnionLemmas.{length-union, rest_union, rest_words, next_long, union_all, union_start}

@@ -1,4 +1,4 @@
-use Rattle.std.proofs.Common.{◌+◌, ◌*◌, map, length, arith}
+use Rattle.std.proofs.Common.{map, length, arith}
 use Rattle.wah_logic.specs.Logic.{groups_and_rest, words_in}
 use Rattle.wah_logic.proofs.UnionLemmas.{one_digit, so_many_times, words_bound, twice_all}
 use Rattle.wah_logic.proofs.unions.or_some.Goals as goal

@@ -1,4 +1,4 @@
-use Rattle.std.proofs.Common.{◌≡◌, ◌+◌, ◌-◌, ◌*◌, ◌≤◌, true, length, replicate, refl, ap, ◌∙◌, arith}
+use Rattle.std.proofs.Common.{◌≡◌, ◌-◌, ◌*◌, true, replicate, refl, ap, ◌∙◌, arith}
 use Rattle.wah_logic.specs.Groups.{or_at}
 use Rattle.wah_logic.proofs.GroupLemmas.{ones_none, ones_next}
 use Rattle.wah_logic.proofs.groups.Groups.or_ones.Goals as goal

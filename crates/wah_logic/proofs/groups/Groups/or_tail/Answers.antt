@@ -1,4 +1,4 @@
-use Rattle.std.proofs.Common.{◌≡◌, ◌+◌, ◌*◌, ◌/◌, ◌%◌, ◌^◌, ◌<◌, ◌≤◌, List, Bool, length, sym, ap, subst, ◌∙◌, arith}
+use Rattle.std.proofs.Common.{◌≡◌, ◌*◌, ◌/◌, ◌%◌, ◌^◌, ◌<◌, List, Bool, length, ap, subst, ◌∙◌, arith}
 use Rattle.wah_words.specs.Places.{places}
 use Rattle.wah_logic.specs.Groups.{or_at}
 use Rattle.wah_logic.proofs.GroupLemmas.{length-group_values, rest_or}

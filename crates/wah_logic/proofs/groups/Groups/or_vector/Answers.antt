@@ -1,8 +1,6 @@
-use Rattle.std.proofs.Common.{◌≡◌, ◌+◌, Some, None, Option, subst, sym, arith}
+use Rattle.std.proofs.Common.{Some, None, subst, arith}
 use Rattle.wah_words.specs.Left.{Comes}
-use Rattle.wah_words.specs.declared.run.Run.{Run}
-use Rattle.wah_logic.specs.Groups.{StandsAt}
-use Rattle.wah_logic.proofs.GroupLemmas.{Gathers, gathers_stands, gathers_run, gathers_end, part_of}
+use Rattle.wah_logic.proofs.GroupLemmas.{gathers_stands, gathers_run, gathers_end, part_of}
 use Rattle.wah_logic.proofs.groups.Groups.or_vector.Goals as goal
 
 pub or_run-group-requires-clause-stands : goal.or_run-group-requires-clause-stands

@@ -1,4 +1,4 @@
-use Rattle.std.proofs.Common.{◌≡◌, ◌+◌, ◌*◌, ◌%◌, ◌≤◌, ◌++◌, length, ap, sym, ◌∙◌, arith}
+use Rattle.std.proofs.Common.{◌≡◌, ◌++◌, length, ap, ◌∙◌, arith}
 use Rattle.wah_words.specs.Places.{places}
 use Rattle.wah_logic.proofs.GroupLemmas.{front_long, front_end, front_all, no_rest}
 use Rattle.wah_logic.proofs.groups.Groups.vector.Goals as goal

@@ -22,7 +22,8 @@ pub use appending::append;
 pub use content::{Dataset, create};
 pub use fault::{AppendFault, DamageKind, OpenFault, PartFault};
 pub use laws::{
-    one_dataset, the_columns_of_a_world, the_datasets_of_a_world, what_is_found_in_a_world,
+    one_damage, one_dataset, the_columns_of_a_world, the_datasets_of_a_world,
+    what_is_found_in_a_world,
 };
 pub use load_law::{
     the_catalog_before_a_load, the_files_of_a_load, the_names_of_a_load, the_refusals_of_loads,

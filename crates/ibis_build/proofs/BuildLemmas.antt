@@ -328,9 +328,9 @@ module _ (dir text : List ℕ) (list : Option (List ℕ)) (old : Option Files) (
       (AddsOnly-weaken (IsLookAmong dataset cols) (IsBuildLook dir list) mid new
       (λ look w.
       inr (record {
-        name = w.column.name;
+        column = w.column;
         asked = asked-name dataset.schema list cols w.column valid chosen w.among;
-        file = subst (λ (d : List ℕ). IsColumnLook d w.column.name look) at w.file;
+        file = subst (λ (d : List ℕ). IsColumnLook d w.column look) at w.file;
       })) k)
 
   -- what is built is there, of the dataset that the path has

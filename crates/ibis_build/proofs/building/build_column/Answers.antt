@@ -16,7 +16,7 @@ use Rattle.ibis_build.proofs.building.build_column.Goals as goal
 pub returns-in-Ok-clause-reads : goal.returns-in-Ok-clause-reads
 returns-in-Ok-clause-reads g c =
     let there : slice_get c.args.dataset.now.schema c.args.col ≡ Some c.in-Some.column.now = sym c.in-Some.ensures in
-    AddsOnly-weaken (IsColumnLook c.args.dataset.now.dir c.in-Some.column.now.name) (IsLookAmong c.args.dataset.now (c.args.col ∷ [])) _ _
+    AddsOnly-weaken (IsColumnLook c.args.dataset.now.dir c.in-Some.column.now) (IsLookAmong c.args.dataset.now (c.args.col ∷ [])) _ _
     (λ look w. record {
       column = c.in-Some.column.now;
       among = record { place = 0; col = c.args.col; asked = refl; in_schema = there };
@@ -26,7 +26,7 @@ returns-in-Ok-clause-reads g c =
 pub returns-in-Err-clause-reads : goal.returns-in-Err-clause-reads
 returns-in-Err-clause-reads g c =
     let there : slice_get c.args.dataset.now.schema c.args.col ≡ Some c.in-Some.column.now = sym c.in-Some.ensures in
-    AddsOnly-weaken (IsColumnLook c.args.dataset.now.dir c.in-Some.column.now.name) (IsLookAmong c.args.dataset.now (c.args.col ∷ [])) _ _
+    AddsOnly-weaken (IsColumnLook c.args.dataset.now.dir c.in-Some.column.now) (IsLookAmong c.args.dataset.now (c.args.col ∷ [])) _ _
     (λ look w. record {
       column = c.in-Some.column.now;
       among = record { place = 0; col = c.args.col; asked = refl; in_schema = there };

@@ -14,7 +14,7 @@ use Rattle.part_meta.specs.declared.part.PartMeta.{PartMeta}
 use Rattle.part_meta.specs.FileNames.{IsCalled, file_name, index_name, mask_name, values_name}
 use Rattle.part_meta.proofs.FileNameLemmas.{same_file}
 use Rattle.world.proofs.PlaceLemmas.{All-at}
-use Rattle.dataset.specs.Damage.{Damage, IsColumnDamaged, words_name}
+use Rattle.dataset.specs.Damage.{Damage, IsColumnDamaged, IsDamagedAt, words_name}
 use Rattle.dataset.specs.Opened.{IsDataset, IsPartOf}
 use Rattle.dataset.specs.declared.content.Dataset.{Dataset}
 use Rattle.dataset.proofs.DamageLemmas.{damage_kept}
@@ -75,6 +75,13 @@ module _ (dataset : Dataset) (valid : IsDataset dataset) (cols : List ℕ) where
           (mask-stays d.part.number d.column.name few called) (words-stay d.part.number d.column.name few called) d.first;
     }
 
+    -- a damage that was there is there still
+    pub damage-stays : (part : PartMeta) (column : Column) (damage : Damage) → part.number < 4096 → IsColumnName column.name
+        → IsDamagedAt m dataset.dir part column damage → IsDamagedAt m' dataset.dir part column damage
+    damage-stays part column damage few called d =
+        damage_kept m' m dataset.dir part column damage (sym (values-stay part.number column.name few called))
+        (sym (mask-stays part.number column.name few called)) (sym (words-stay part.number column.name few called)) d
+
     pub rows-stay : (part : PartMeta) (column : Column) (mask : List Bool) (numbers : List ℤ) → part.number < 4096 → IsColumnName column.name
         → HasRows m dataset.dir part column mask numbers → HasRows m' dataset.dir part column mask numbers
     rows-stay part column mask numbers few called r =
@@ -92,7 +99,8 @@ module _ (dataset : Dataset) (valid : IsDataset dataset) (cols : List ℕ) where
     too-many-was : (place : ℕ) (part : PartMeta) (column : Column) (spec : Spec) (number : ℕ) → slice_get dataset.parts place ≡ Some part
         → IsColumnName column.name → HasTooMany m' dataset part column spec number → HasTooMany m dataset part column spec number
     too-many-was place part column spec number listed called t =
-        λ mask numbers r. t mask numbers (rows-stay part column mask numbers (part-low place part listed) called r)
+        let few = part-low place part listed in
+        (λ damage d. t.0 damage (damage-stays part column damage few called d), λ mask numbers r. t.1 mask numbers (rows-stay part column mask numbers few called r))
 
   was : (P Q : Files → Type 0) (old new : Option Files) → ChangesAmong (IsIndexName dataset cols) old new
       → ((m m' : Files) → ChangesAmong (IsIndexName dataset cols) (Some m) (Some m') → P m' → Q m) → IfSome new P → IfSome old Q

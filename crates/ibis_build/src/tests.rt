@@ -148,13 +148,49 @@ fn requests_are_answered(rt: HostRuntime) -> Result<(), Fail> {
     for (dir, spec, list, want, count) in [
         ("D", "<binning none/>", Some("\tC , a"), "done 4", 4),
         ("D", "<binning bounds=(4,8)/>", Some("c,a"), "done 4", 4),
-        ("D", "<binning none/>", Some("a,z"), "error 5 spec Unknown\n", 0),
-        ("D", "<binning none/>", Some("c,"), "error 5 spec Unknown\n", 0),
-        ("D", "<binning none/>", Some("c,C"), "error 5 spec Repeated\n", 0),
-        ("D", "<binning none/>", Some("c,b,c"), "error 5 spec WrongType\n", 0),
-        ("D", "<binning bounds=(3,3)/>", Some("z"), "error 5 spec Bounds\n", 0),
+        (
+            "D",
+            "<binning none/>",
+            Some("a,z"),
+            "error 5 spec Unknown\n",
+            0,
+        ),
+        (
+            "D",
+            "<binning none/>",
+            Some("c,"),
+            "error 5 spec Unknown\n",
+            0,
+        ),
+        (
+            "D",
+            "<binning none/>",
+            Some("c,C"),
+            "error 5 spec Repeated\n",
+            0,
+        ),
+        (
+            "D",
+            "<binning none/>",
+            Some("c,b,c"),
+            "error 5 spec WrongType\n",
+            0,
+        ),
+        (
+            "D",
+            "<binning bounds=(3,3)/>",
+            Some("z"),
+            "error 5 spec Bounds\n",
+            0,
+        ),
         ("E", "<binning odd/>", None, "error 5 spec Syntax\n", 0),
-        ("E", "<binning none/>", Some("z"), "error 7 missing E/-catalog.txt\n", 0),
+        (
+            "E",
+            "<binning none/>",
+            Some("z"),
+            "error 7 missing E/-catalog.txt\n",
+            0,
+        ),
     ] {
         let mut store = store_of(&rt, &[]);
         let case = Case { dir, spec, list };
@@ -183,9 +219,24 @@ fn every_column_but_a_text_is_indexed(rt: HostRuntime) -> Result<(), Fail> {
 #[test]
 fn a_damaged_file_leaves_the_indexes_before_it(rt: HostRuntime) -> Result<(), Fail> {
     for (file, bytes, want, count) in [
-        ("D/p0002/c", b"short".as_slice(), "error 8 damaged D/p0002/c Length\n", 2),
-        ("D/p0002/c.dic", b"\x01\0\0\0\0\0".as_slice(), "error 8 damaged D/p0002/c.dic Words\n", 2),
-        ("D/p0002/a.msk", b"".as_slice(), "error 8 damaged D/p0002/a.msk Mask\n", 3),
+        (
+            "D/p0002/c",
+            b"short".as_slice(),
+            "error 8 damaged D/p0002/c Length\n",
+            2,
+        ),
+        (
+            "D/p0002/c.dic",
+            b"\x01\0\0\0\0\0".as_slice(),
+            "error 8 damaged D/p0002/c.dic Words\n",
+            2,
+        ),
+        (
+            "D/p0002/a.msk",
+            b"".as_slice(),
+            "error 8 damaged D/p0002/a.msk Mask\n",
+            3,
+        ),
     ] {
         let mut store = store_of(&rt, &[]);
         assert!(rt; store.put(named(&rt, file).as_str(), bytes).is_ok());

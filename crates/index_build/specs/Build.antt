@@ -20,7 +20,7 @@ use Rattle.dataset.specs.PartColumns.{HasWords, OpensDictionary, column_at}
 use Rattle.dataset.specs.declared.content.Dataset.{Dataset}
 use Rattle.dataset.specs.declared.fault.DamageKind.TheVariants.{Length}
 use Rattle.dataset.specs.declared.fault.PartFault.{PartFault}
-use Rattle.dataset.specs.declared.fault.PartFault.TheVariants as part
+use Rattle.dataset.specs.declared.fault.PartFault.TheVariants as unopened
 use Rattle.index_build.specs.declared.fault.BuildFault.{BuildFault}
 use Rattle.index_build.specs.declared.fault.BuildFault.TheVariants.{Damaged, TooManyBins, Store, OutOfMemory}
 use Rattle.index_build.specs.declared.writing.Built.{Built}
@@ -71,30 +71,30 @@ TellsDamage damage (Err Store) = ⊤
 TellsDamage damage (Err OutOfMemory) = ⊤
 
 -- The dictionary of a category is read, or damaged as was answered; another column has none.
-abbrev pub ReadsWords : {A : Type 0} → Files → Dataset → PartMeta → Column → Result A PartFault → Type 0
+abbrev pub ReadsWords : Files → Dataset → PartMeta → Column → Result ⊤ PartFault → Type 0
 ReadsWords files dataset part column (Ok done) =
     column.ty ≡ Category → (words : List (List ℕ)) × (words_at files dataset.dir part column ≡ Ok words)
-ReadsWords files dataset part column (Err (part.Damaged file kind want have)) =
-    (column.ty ≡ Category) × OpensDictionary files dataset part column (Err (part.Damaged file kind want have))
-ReadsWords files dataset part column (Err part.Store) = ⊤
-ReadsWords files dataset part column (Err part.OutOfMemory) = ⊤
+ReadsWords files dataset part column (Err (unopened.Damaged file kind want have)) =
+    (column.ty ≡ Category) × OpensDictionary files dataset part column (Err (unopened.Damaged file kind want have))
+ReadsWords files dataset part column (Err unopened.Store) = ⊤
+ReadsWords files dataset part column (Err unopened.OutOfMemory) = ⊤
 
 -- The files are those of such a column, a category's dictionary among them, or have that first damage.
 abbrev pub OpensNumbers : Files → Dataset → PartMeta → Column → Result ColumnRef PartFault → Type 0
 OpensNumbers files dataset part column (Ok opened) =
     (column_at files dataset part column ≡ Ok opened.mask)
     × (column.ty ≡ Category → (words : List (List ℕ)) × (words_at files dataset.dir part column ≡ Ok words))
-OpensNumbers files dataset part column (Err (part.Damaged file kind want have)) =
+OpensNumbers files dataset part column (Err (unopened.Damaged file kind want have)) =
     IsDamagedAt files dataset.dir part column (record { file = file; kind = kind; want = want; have = have })
-OpensNumbers files dataset part column (Err part.Store) = ⊤
-OpensNumbers files dataset part column (Err part.OutOfMemory) = ⊤
+OpensNumbers files dataset part column (Err unopened.Store) = ⊤
+OpensNumbers files dataset part column (Err unopened.OutOfMemory) = ⊤
 
 -- ---- why it ends without an index
 
 abbrev pub fault_of_part : PartFault → BuildFault
-fault_of_part (part.Damaged file kind want have) = Damaged file kind want have
-fault_of_part part.Store = Store
-fault_of_part part.OutOfMemory = OutOfMemory
+fault_of_part (unopened.Damaged file kind want have) = Damaged file kind want have
+fault_of_part unopened.Store = Store
+fault_of_part unopened.OutOfMemory = OutOfMemory
 
 -- fewer bytes of a file came, or memory ran out
 abbrev pub IsShort : List ℕ → ℕ → ℕ → BuildFault → Type 0

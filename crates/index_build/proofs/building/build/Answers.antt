@@ -4,7 +4,7 @@ use Rattle.fb_outside.specs.Files.{Files}
 use Rattle.world.specs.Stands.{StandsFor}
 use Rattle.index_build.specs.Build.{AnswersOver, bin_count}
 use Rattle.index_build.proofs.BuildLemmas.{leaves_opened, opened_numbers}
-use Rattle.index_build.proofs.OpeningLemmas.{damage_told, opened_mask, part_looks, stops_unopened, undamaged, unopened_answers}
+use Rattle.index_build.proofs.OpeningLemmas.{damage_told, opened_mask, part_looks, stops_opened, stops_unopened, undamaged, unopened_answers}
 use Rattle.index_build.proofs.BuiltLemmas.{stands_after}
 use Rattle.index_build.proofs.building.build.Goals as goal
 
@@ -83,6 +83,11 @@ pub returns-clause-damaged : goal.returns-clause-damaged
 returns-clause-damaged g c = λ m damage told d.
     undamaged (g.S.Store.files c.args.store.now) m c.args.dataset.now c.args.part.now c.args.column.now damage c.in-Ok.found c.build_column.result told
     c.in-Ok.ensures.exact d
+
+pub returns-clause-stop : goal.returns-clause-stop
+returns-clause-stop g c =
+    stops_opened (g.S.Store.files c.args.store.now) (g.S.Store.files c.open_numbers.new.store) c.args.dataset.now c.args.part.now c.args.column.now c.in-Ok.found
+    c.args.spec.now c.build_column.result c.open_numbers.ensures.files c.in-Ok.ensures.opened c.in-Ok.ensures.exact c.build_column.ensures.stop
 
 pub returns-clause-reads : goal.returns-clause-reads
 returns-clause-reads g c =

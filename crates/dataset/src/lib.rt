@@ -12,6 +12,7 @@ mod load_law;
 mod opening;
 mod part_column;
 mod part_columns;
+mod part_indexes;
 mod part_writing;
 mod refusing;
 #[cfg(test)]
@@ -29,3 +30,4 @@ pub use load_law::{
 };
 pub use opening::open_dataset;
 pub use part_columns::{column_damage, open_part_column};
+pub use part_indexes::{index_damage, open_part_index};

@@ -1,6 +1,6 @@
 //! The schema of a dataset, its parts, and the indexes of their columns.
 
-ghost use Rattle.std.specs.Prelude.{◌≡◌, ◌++◌, ◌<◌, IfErr, IfOk, IsErrOf, OnOk};
+ghost use Rattle.std.specs.Prelude.{◌≡◌, ◌++◌, ◌<◌, IfOk, IsErrOf, OnOk};
 ghost use Rattle.fb_outside.specs.Causes.{HasCause};
 ghost use Rattle.fb_outside.specs.Files.{SameFiles};
 ghost use Rattle.fb_outside.specs.Names.{IsPath};
@@ -121,7 +121,10 @@ fn push_index<S: Store>(
         return Ok(());
     }
     match open_part_index(alloc, store, dataset, part, column) {
-        Ok(Some(head)) => push_index_line(alloc, text, &column.name, &head.spec),
+        Ok(Some(head)) => {
+            push_index_line(alloc, text, &column.name, &head.spec)?;
+            Ok(())
+        }
         Ok(None) => Ok(()),
         Err(fault) => Err(stop_of_part(fault)),
     }
@@ -133,9 +136,8 @@ fn push_index_line(
     text: &mut Vec<u8>,
     name: &ColName,
     spec: &Spec,
-) -> Result<(), Unanswered>
-    ensures line { OnOk result (text.new.items ≡ text.old.items ++ index_line name.now spec.now) }
-    ensures stop { IfErr result (λ stop. stop ≡ Unanswered.OutOfMemory) }
+) -> Result<(), AllocError>
+    ensures { OnOk result (text.new.items ≡ text.old.items ++ index_line name.now spec.now) }
 {
     let spec = print_spec(alloc, spec)?;
     text.extend_from_slice(b"index ")?;

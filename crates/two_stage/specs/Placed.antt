@@ -8,6 +8,11 @@ use Rattle.where_plan.specs.Plans.{place_in}
 use Rattle.where_plan.specs.declared.plan.PlanAtom.{PlanAtom}
 use Rattle.part_meaning.specs.Columns.{no_column}
 
+-- a part, whose files are under the path of its dataset
+pub record PartAt : Type 0 where
+  pub dir : List ℕ
+  pub meta : PartMeta
+
 -- the path, the part's number and rows, the column and its place in the schema
 pub record Placed : Type 0 where
   pub dir : List ℕ

@@ -33,23 +33,23 @@ pub fn estimate<S: Store, L: Ledger>(
     plan: &Plan,
     steps: &mut Steps<L>,
 ) -> Result<Bounds, EvalFault>
-    requires { FitsSchema conditions.now.part.now.schema plan.now }
+    requires { FitsSchema conditions.now.meta.schema plan.now }
     ensures cause { HasCause (S.faults store.old) (S.faults store.new) (IsRefused result IsOfStore) }
     ensures files { SameFiles (S.files store.old) (S.files store.new) }
     ensures stop { IfErr result (λ fault. IsOfMemory fault
-        ⊎ IsOneOf (atoms_of plan.now) (λ atom. Stops (S.files store.old) conditions.now.dir.now conditions.now.part.now atom fault)) }
+        ⊎ IsOneOf (atoms_of plan.now) (λ atom. Stops (S.files store.old) conditions.now.dir conditions.now.meta atom fault)) }
 
     // Where the files rest for a partition.
-    ensures definite { IfOk result (λ bounds. (p : Partition) → IsPartAt (S.files store.old) conditions.now.dir.now conditions.now.part.now p
-        → bounds.definite ≡ definite_in conditions.now.part.now.schema p plan.now) }
-    ensures possible { IfOk result (λ bounds. (p : Partition) → IsPartAt (S.files store.old) conditions.now.dir.now conditions.now.part.now p
-        → bounds.possible ≡ possible_in conditions.now.part.now.schema p plan.now) }
-    ensures whole { IfErr result (λ fault. (p : Partition) → IsPartAt (S.files store.old) conditions.now.dir.now conditions.now.part.now p → IsOutside fault) }
-    ensures reads { (p : Partition) → IsPartAt (S.files store.old) conditions.now.dir.now conditions.now.part.now p
-        → AddsLooks (S.reads store.old) (S.reads store.new) (is_free_in (meaning_of conditions.now.dir.now conditions.now.part.now.schema p) plan.now)
-        (is_bitmap_in conditions.now.dir.now conditions.now.part.now.schema p) (bitmaps_in (meaning_of conditions.now.dir.now conditions.now.part.now.schema p) plan.now) (IsOk result) }
-    ensures steps { (p : Partition) → IsPartAt (S.files store.old) conditions.now.dir.now conditions.now.part.now p
-        → steps.new ≤ steps.old + 2 * groups_and_rest conditions.now.part.now.rows * work_in (meaning_of conditions.now.dir.now conditions.now.part.now.schema p) plan.now }
+    ensures definite { IfOk result (λ bounds. (p : Partition) → IsPartAt (S.files store.old) conditions.now.dir conditions.now.meta p
+        → bounds.definite ≡ definite_in conditions.now.meta.schema p plan.now) }
+    ensures possible { IfOk result (λ bounds. (p : Partition) → IsPartAt (S.files store.old) conditions.now.dir conditions.now.meta p
+        → bounds.possible ≡ possible_in conditions.now.meta.schema p plan.now) }
+    ensures whole { IfErr result (λ fault. (p : Partition) → IsPartAt (S.files store.old) conditions.now.dir conditions.now.meta p → IsOutside fault) }
+    ensures reads { (p : Partition) → IsPartAt (S.files store.old) conditions.now.dir conditions.now.meta p
+        → AddsLooks (S.reads store.old) (S.reads store.new) (is_free_in (meaning_of conditions.now.dir conditions.now.meta.schema p) plan.now)
+        (is_bitmap_in conditions.now.dir conditions.now.meta.schema p) (bitmaps_in (meaning_of conditions.now.dir conditions.now.meta.schema p) plan.now) (IsOk result) }
+    ensures steps { (p : Partition) → IsPartAt (S.files store.old) conditions.now.dir conditions.now.meta p
+        → steps.new ≤ steps.old + 2 * groups_and_rest conditions.now.meta.rows * work_in (meaning_of conditions.now.dir conditions.now.meta.schema p) plan.now }
 {
     stages::estimate(alloc, store, conditions, plan, steps)
 }
@@ -62,24 +62,24 @@ pub fn evaluate<S: Store, L: Ledger>(
     plan: &Plan,
     steps: &mut Steps<L>,
 ) -> Result<Hits, EvalFault>
-    requires { FitsSchema conditions.now.part.now.schema plan.now }
+    requires { FitsSchema conditions.now.meta.schema plan.now }
     ensures cause { HasCause (S.faults store.old) (S.faults store.new) (IsRefused result IsOfStore) }
     ensures files { SameFiles (S.files store.old) (S.files store.new) }
     ensures stop { IfErr result (λ fault. IsOfMemory fault
-        ⊎ IsOneOf (atoms_of plan.now) (λ atom. Stops (S.files store.old) conditions.now.dir.now conditions.now.part.now atom fault)) }
-    ensures length { IfOk result (λ hits. length hits.rows ≡ conditions.now.part.now.rows) }
+        ⊎ IsOneOf (atoms_of plan.now) (λ atom. Stops (S.files store.old) conditions.now.dir conditions.now.meta atom fault)) }
+    ensures length { IfOk result (λ hits. length hits.rows ≡ conditions.now.meta.rows) }
 
     // Where the files rest for a partition.
-    ensures rows { IfOk result (λ hits. (p : Partition) → IsPartAt (S.files store.old) conditions.now.dir.now conditions.now.part.now p
+    ensures rows { IfOk result (λ hits. (p : Partition) → IsPartAt (S.files store.old) conditions.now.dir conditions.now.meta p
         → hits.rows ≡ rows_that_hold plan.now p) }
-    ensures checked { IfOk result (λ hits. (p : Partition) → IsPartAt (S.files store.old) conditions.now.dir.now conditions.now.part.now p
-        → hits.checked ≡ checked_in conditions.now.part.now.schema p plan.now) }
-    ensures whole { IfErr result (λ fault. (p : Partition) → IsPartAt (S.files store.old) conditions.now.dir.now conditions.now.part.now p → IsOutside fault) }
-    ensures reads { (p : Partition) → IsPartAt (S.files store.old) conditions.now.dir.now conditions.now.part.now p
-        → AddsLooks (S.reads store.old) (S.reads store.new) (is_allowed_in (meaning_of conditions.now.dir.now conditions.now.part.now.schema p) plan.now)
-        (is_bitmap_in conditions.now.dir.now conditions.now.part.now.schema p) (bitmaps_in (meaning_of conditions.now.dir.now conditions.now.part.now.schema p) plan.now) (IsOk result) }
-    ensures steps { (p : Partition) → IsPartAt (S.files store.old) conditions.now.dir.now conditions.now.part.now p
-        → steps.new ≤ steps.old + 2 * groups_and_rest conditions.now.part.now.rows * work_in (meaning_of conditions.now.dir.now conditions.now.part.now.schema p) plan.now }
+    ensures checked { IfOk result (λ hits. (p : Partition) → IsPartAt (S.files store.old) conditions.now.dir conditions.now.meta p
+        → hits.checked ≡ checked_in conditions.now.meta.schema p plan.now) }
+    ensures whole { IfErr result (λ fault. (p : Partition) → IsPartAt (S.files store.old) conditions.now.dir conditions.now.meta p → IsOutside fault) }
+    ensures reads { (p : Partition) → IsPartAt (S.files store.old) conditions.now.dir conditions.now.meta p
+        → AddsLooks (S.reads store.old) (S.reads store.new) (is_allowed_in (meaning_of conditions.now.dir conditions.now.meta.schema p) plan.now)
+        (is_bitmap_in conditions.now.dir conditions.now.meta.schema p) (bitmaps_in (meaning_of conditions.now.dir conditions.now.meta.schema p) plan.now) (IsOk result) }
+    ensures steps { (p : Partition) → IsPartAt (S.files store.old) conditions.now.dir conditions.now.meta p
+        → steps.new ≤ steps.old + 2 * groups_and_rest conditions.now.meta.rows * work_in (meaning_of conditions.now.dir conditions.now.meta.schema p) plan.now }
 {
     stages::evaluate(alloc, store, conditions, plan, steps)
 }

@@ -1,8 +1,6 @@
 //! The conditions on the columns of a part, over its files.
 
 ghost use Rattle.std.specs.Prelude.{◌≡◌, ◌<◌, length};
-ghost use Rattle.fb_outside.specs.Names.{IsPath};
-ghost use Rattle.part_meta.specs.PartText.{IsPart};
 ghost use Rattle.two_stage.specs.Placed.{placed_at};
 
 use crate::checking::{check_numbers, check_texts};
@@ -15,6 +13,7 @@ use fb_types::ColType;
 use part_meta::PartMeta;
 use stages::{Conditions, Settled};
 use std::alloc::Global;
+use std::marker::Model;
 use std::sync::ledger::Ledger;
 use steps::Steps;
 use wah_words::Wah;
@@ -25,15 +24,25 @@ use where_plan::PlanAtom;
 pub struct PartConditions<'a> {
     pub dir: &'a FileName,
     pub part: &'a PartMeta,
-    ghost path: { IsPath dir.now },
-    ghost valid: { IsPart part.now },
+}
+
+impl<'a> Model for PartConditions<'a> {
+    ghost use Rattle.fb_outside.specs.Names.{IsPath};
+    ghost use Rattle.part_meta.specs.PartText.{IsPart};
+    ghost use Rattle.two_stage.specs.Placed.{PartAt};
+
+    ghost Value = { PartAt };
+
+    ghost view = { λ s. record { dir = s.dir.now; meta = s.part.now } };
+
+    ghost invariant = { λ s. IsPath s.dir.now × IsPart s.part.now };
 }
 
 impl<'a> PartConditions<'a> {
     /// Where the files of a column are.
     fn placed(&self, col: usize) -> PlacedColumn<'_>
-        requires { col < length self.now.part.now.schema }
-        ensures { result ≡ placed_at self.now.dir.now self.now.part.now col }
+        requires { col < length self.now.meta.schema }
+        ensures { result ≡ placed_at self.now.dir self.now.meta col }
     {
         PlacedColumn {
             dir: self.dir,
@@ -57,15 +66,15 @@ impl<'a> Conditions for PartConditions<'a> {
 
     type Fault = EvalFault;
 
-    ghost fits = { λ c condition. FitsColumn c.part.now.schema condition };
+    ghost fits = { λ c condition. FitsColumn c.meta.schema condition };
 
-    ghost rows = { λ c. c.part.now.rows };
+    ghost rows = { λ c. c.meta.rows };
 
-    ghost means = { λ c files m. Means files c.dir.now c.part.now m };
+    ghost means = { λ c files m. Means files c.dir c.meta m };
 
-    ghost is_open = { λ c files condition column. IsKept files c.dir.now c.part.now condition column };
+    ghost is_open = { λ c files condition column. IsKept files c.dir c.meta condition column };
 
-    ghost stops = { λ c files condition fault. Stops files c.dir.now c.part.now condition fault };
+    ghost stops = { λ c files condition fault. Stops files c.dir c.meta condition fault };
 
     ghost is_store = { IsOfStore };
 
@@ -125,7 +134,7 @@ impl<'a> Conditions for PartConditions<'a> {
         }
     }
 
-    ghost meaning = { λ c files m means. part_means files c.dir.now c.part.now m means };
+    ghost meaning = { λ c files m means. part_means files c.dir c.meta m means };
 
     ghost memory = { λ full fault given. of_memory fault given };
 

@@ -1,5 +1,5 @@
 -- The first damage of a column's files: it is one, and of these files alone.
-use Rattle.std.proofs.Common.{◌≡◌, List, ℕ, Option, Some, None, Result, Ok, Err, IsSome, refl, sym, ap, subst, ◌∙◌}
+use Rattle.std.proofs.Common.{◌≡◌, List, ℕ, Option, Some, None, Ok, Err, IsSome, refl, sym, ap, subst, ◌∙◌}
 use Rattle.std.specs.Prelude.{IfSome}
 use Rattle.std.specs.List.{slice_get}
 use Rattle.answers.specs.Answers.{Tells}
@@ -13,7 +13,6 @@ use Rattle.column_file.specs.declared.fault.ColFault.TheVariants as column_
 use Rattle.part_meta.specs.declared.part.PartMeta.{PartMeta}
 use Rattle.part_meta.specs.FileNames.{mask_name, values_name}
 use Rattle.text_column.specs.OpenedDictionary.{dictionary_of}
-use Rattle.text_column.specs.declared.fault.DicFault.{DicFault}
 use Rattle.dataset.specs.Damage.{Damage, IsColumnDamaged, IsDamagedAt, column_damage, damage, dictionary_damage, rows_at, words_at, words_name}
 use Rattle.dataset.specs.Damage.IsDamagedAt.{NoColumn, NoDictionary}
 use Rattle.dataset.specs.PartColumns.{IfDamaged, mask_file, part_fault, values_file}

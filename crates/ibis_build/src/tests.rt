@@ -96,6 +96,7 @@ fn answer<L: Ledger>(
 }
 
 /// A request for indexes.
+#[derive(Drop)]
 struct Case {
     dir: &'static str,
     spec: &'static str,

@@ -13,8 +13,7 @@ use Rattle.index_spec.specs.Language.{IsGivenBinning}
 use Rattle.index_spec.specs.declared.spec.EncodingSpec.{EncodingSpec}
 use Rattle.index_spec.specs.declared.spec.Spec.{Spec}
 use Rattle.part_meta.specs.declared.part.PartMeta.{PartMeta}
-use Rattle.binning.specs.Bins.{bins_of, cells, present}
-use Rattle.binning.specs.Keys.{keying_of}
+use Rattle.binning.specs.Bins.{cells, present}
 use Rattle.binning.specs.declared.gathering.Bin.{Bin}
 use Rattle.binning.proofs.ColumnLemmas.{length-cells}
 use Rattle.binning.proofs.KeyLemmas.{kept_of}

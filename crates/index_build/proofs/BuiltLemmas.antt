@@ -1,5 +1,5 @@
 -- What the files stand for after a build.
-use Rattle.std.proofs.Common.{◌≡◌, ◌⊎◌, inl, inr, ℕ, ℤ, Bool, List, Option, Some, None, Result, Ok, Err, IsSome, length, map, refl, sym, ap, subst, ◌∙◌}
+use Rattle.std.proofs.Common.{◌≡◌, ◌⊎◌, inl, inr, ℕ, ℤ, Bool, List, Option, Some, None, Result, Ok, Err, IsSome, length, map, refl, sym, subst, ◌∙◌}
 use Rattle.std.specs.FinMap.{insert}
 use Rattle.std.proofs.lemmas.List.{length-map}
 use Rattle.fb_outside.specs.Files.{Files, PutLeaves, Puts, SameFiles}

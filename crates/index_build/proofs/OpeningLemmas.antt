@@ -16,7 +16,7 @@ use Rattle.column_file.specs.Values.{width_in}
 use Rattle.index_spec.specs.declared.spec.EncodingSpec.{EncodingSpec}
 use Rattle.index_spec.specs.declared.spec.Spec.{Spec}
 use Rattle.part_meta.specs.declared.part.PartMeta.{PartMeta}
-use Rattle.dataset.specs.Damage.{Damage, IsColumnDamaged, IsDamagedAt}
+use Rattle.dataset.specs.Damage.{Damage, IsDamagedAt}
 use Rattle.dataset.specs.Damage.IsDamagedAt.{NoColumn, NoDictionary}
 use Rattle.dataset.specs.PartColumns.{IsOpened, OpensColumn, OpensDictionary, column_at, mask_file, values_file, words_file}
 use Rattle.dataset.specs.declared.content.Dataset.{Dataset}

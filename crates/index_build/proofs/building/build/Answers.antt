@@ -1,4 +1,4 @@
-use Rattle.std.proofs.Common.{◌≡◌, inl, ℕ, List, Bool, Option, subst, sym, ap, ◌∙◌}
+use Rattle.std.proofs.Common.{inl, List, Bool, Option, subst, sym, ◌∙◌}
 use Rattle.std.proofs.lemmas.Result.{err_from_is_err_and}
 use Rattle.fb_outside.specs.Files.{Files}
 use Rattle.world.specs.Stands.{StandsFor}

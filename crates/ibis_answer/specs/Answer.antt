@@ -1,5 +1,5 @@
 -- What a question and an estimate answer.
-use Rattle.std.specs.Prelude.{◌≡◌, ⊤, ℕ, Bool, true, false, List, [], ◌++◌, length, decimal, Option, Some, None, IfSome, Result, Ok, Err, IfOk, if◌then◌else◌}
+use Rattle.std.specs.Prelude.{ℕ, Bool, true, false, List, [], ◌++◌, length, decimal, Option, Some, None, Result, Ok, Err}
 use Rattle.std.specs.List.{filter}
 use lib.Chars.{codes}
 use Rattle.where_grammar.specs.declared.clause.Clause.{Clause}
@@ -42,29 +42,9 @@ definite clause content = definite_over content.schema content.parts (plan_of co
 abbrev pub possible : Option Clause → Content → ℕ
 possible clause content = possible_over content.schema content.parts (plan_of content.schema clause)
 
--- ---- what is told of them
-
-unfoldable pub hits_line : ℕ → List ℕ
-hits_line count = codes "hits " ++ (decimal count ++ codes "\n")
-
-unfoldable pub checked_line : ℕ → List ℕ
-checked_line count = codes "checked " ++ (decimal count ++ codes "\n")
-
-unfoldable pub between_line : Bounds → List ℕ
-between_line b = codes "between " ++ (decimal b.definite ++ (codes " and " ++ (decimal b.possible ++ codes "\n")))
-
--- the checks are told where it is asked for
-abbrev pub answer_text : Bool → Counted → List ℕ
-answer_text true c = hits_line c.hits ++ checked_line c.checked
-answer_text false c = hits_line c.hits
-
--- what is told, which changes nothing, or the refusal
-abbrev pub told : {A : Type 0} → (A → List ℕ) → Result A Status → Outcome
-told text (Ok numbers) = record { status = Done; text = text numbers; effects = [] }
-told text (Err status) = refused status
-
 -- ---- in a world
 
+-- where the path has no dataset it is refused before
 abbrev pub counted_in : Option Clause → Option Content → Counted
 counted_in clause None = record { hits = 0; checked = 0 }
 counted_in clause (Some content) = record { hits = hits clause content; checked = checked clause content }
@@ -81,8 +61,29 @@ numbers_of numbers (Err status) content = Err status
 abbrev pub asked_in : {A : Type 0} → (Option Clause → Option Content → A) → (dir query : List ℕ) → World → Result A Status
 asked_in numbers dir query world = numbers_of numbers (asked_of dir query (found_in world dir)) (content_at world dir)
 
+-- ---- what is told of them
+
+unfoldable pub hits_line : ℕ → List ℕ
+hits_line count = codes "hits " ++ (decimal count ++ codes "\n")
+
+unfoldable pub checked_line : ℕ → List ℕ
+checked_line count = codes "checked " ++ (decimal count ++ codes "\n")
+
+-- the checks are told where it is asked for
+abbrev pub answer_text : (tell : Bool) → Counted → List ℕ
+answer_text true c = hits_line c.hits ++ checked_line c.checked
+answer_text false c = hits_line c.hits
+
+unfoldable pub between_line : Bounds → List ℕ
+between_line b = codes "between " ++ (decimal b.definite ++ (codes " and " ++ (decimal b.possible ++ codes "\n")))
+
+-- what is told, which changes nothing, or the refusal
+abbrev pub told : {A : Type 0} → (A → List ℕ) → Result A Status → Outcome
+told text (Ok numbers) = record { status = Done; text = text numbers; effects = [] }
+told text (Err status) = refused status
+
 -- a question, and an estimate
-abbrev pub answer_outcome : (dir query : List ℕ) → Bool → World → Outcome
+abbrev pub answer_outcome : (dir query : List ℕ) → (tell : Bool) → World → Outcome
 answer_outcome dir query tell world = told (answer_text tell) (asked_in counted_in dir query world)
 
 abbrev pub estimate_outcome : (dir query : List ℕ) → World → Outcome

@@ -1,9 +1,14 @@
--- The clause of a query's text, and whether its names fit a schema.
-use Rattle.std.specs.Prelude.{ℕ, List, Option, Some, None, Result, Ok, Err, is_some, if◌then◌else◌}
+-- The clause of a query's text, the columns that it names, and whether they fit a schema.
+use Rattle.std.specs.Prelude.{ℕ, Bool, false, not, List, Option, Some, None, Result, Ok, Err, is_some, if◌then◌else◌}
+use Rattle.std.specs.List.{list_any}
+use Rattle.std.specs.Str.{bytes_eq}
 use Rattle.fb_types.specs.declared.schemas.Column.{Column}
 use Rattle.where_grammar.specs.declared.clause.Clause.{Clause}
+use Rattle.where_grammar.specs.declared.clause.Clause.TheOpen.{Clause-F}
+use Rattle.where_grammar.specs.declared.clause.Clause.TheFolds.{fold-Clause}
 use Rattle.where_grammar.specs.declared.clause.QueryKind.{QueryKind}
 use Rattle.where_grammar.specs.declared.clause.QueryKind.TheVariants.{Syntax}
+use Rattle.where_grammar.specs.Holds.{column_of}
 use Rattle.where_plan.specs.Refusals.{refusal_of}
 use Rattle.query_grammar.specs.declared.query.Query.{Query}
 use Rattle.query_grammar.specs.Language.{read_query}
@@ -28,7 +33,21 @@ abbrev pub clause_or_refusal : Result (Option Clause) QueryKind → Result (Opti
 clause_or_refusal (Ok clause) = Ok clause
 clause_or_refusal (Err kind) = Err (BadQuery kind)
 
--- ---- its names
+-- ---- the columns that it names
+
+abbrev pub names_by_parts : List ℕ → Clause-F Bool → Bool
+names_by_parts name (Clause-F.Or parts) = list_any (λ part. part) parts
+names_by_parts name (Clause-F.Xor parts) = list_any (λ part. part) parts
+names_by_parts name (Clause-F.And parts) = list_any (λ part. part) parts
+names_by_parts name (Clause-F.Not part) = part
+names_by_parts name (Clause-F.One condition) = bytes_eq name (column_of condition)
+
+-- some condition of the clause is on a column of this name
+abbrev pub names : Option Clause → List ℕ → Bool
+names None name = false
+names (Some clause) name = fold-Clause Bool (names_by_parts name) clause
+
+-- ---- whether they fit
 
 abbrev pub fits_or_refusal : Option Clause → Option QueryKind → Result (Option Clause) Status
 fits_or_refusal clause None = Ok clause

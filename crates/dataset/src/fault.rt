@@ -18,6 +18,8 @@ pub enum DamageKind {
     Length,
     /// It is no mask of its rows.
     Mask,
+    /// It is no dictionary.
+    Words,
 }
 
 /// Why a dataset isn't opened: the first that holds, of the catalog and then of each part in order.

@@ -292,6 +292,7 @@ fn damage_kind(kind: DamageKind) -> &'static str
         DamageKind::Text => "Text",
         DamageKind::Length => "Length",
         DamageKind::Mask => "Mask",
+        DamageKind::Words => "Words",
     }
 }
 

@@ -196,7 +196,7 @@ fn requests_are_answered(rt: HostRuntime) -> Result<(), Fail> {
         let mut store = store_of(&rt, &[]);
         let case = Case { dir, spec, list };
         let have = answered(&rt, rt.blank(), &mut store, &case)?;
-        assert!(rt; have.as_str() == want, "{want}");
+        assert!(rt; have.as_str() == want, "{have}");
         assert_eq!(rt; built(&rt, &store), count);
     }
     Ok(())
@@ -242,7 +242,7 @@ fn a_damaged_file_leaves_the_indexes_before_it(rt: HostRuntime) -> Result<(), Fa
         let mut store = store_of(&rt, &[]);
         assert!(rt; store.put(named(&rt, file).as_str(), bytes).is_ok());
         let have = answered(&rt, rt.blank(), &mut store, &BOTH)?;
-        assert!(rt; have.as_str() == want, "{want}");
+        assert!(rt; have.as_str() == want, "{have}");
         assert_eq!(rt; built(&rt, &store), count);
     }
     Ok(())

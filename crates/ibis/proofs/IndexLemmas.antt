@@ -1,5 +1,5 @@
 -- The index of a column in a world opens, and says its specification.
-use Rattle.std.proofs.Common.{◌≡◌, ◌+◌, ◌<◌, ◌≤◌, ℕ, ℤ, ◌≤ℤ◌, Bool, true, false, List, [], ◌∷◌, filter, length, map, Option, Some, None, IsSome, is_some, Result, Ok, Err, FitsSigned, refl, sym, ap, subst, ◌∙◌, arith}
+use Rattle.std.proofs.Common.{◌≡◌, ◌+◌, ◌-◌, ◌^◌, ◌<◌, ◌≤◌, ℕ, ℤ, pos, negsuc, neg_ℤ, ◌≤ℤ◌, Bool, true, false, List, [], ◌∷◌, filter, length, map, Option, Some, None, IsSome, is_some, Result, Ok, Err, FitsSigned, refl, sym, ap, subst, ◌∙◌, arith}
 use Rattle.std.specs.FinMap.{get}
 use Rattle.std.specs.Int.{w128}
 use Rattle.std.specs.List.{All, AllByRecursion, slice_get}
@@ -51,17 +51,21 @@ use Rattle.ibis.proofs.ListLemmas.{asked_of_width, not_asked}
 
 -- ---- the ends of a bin fit 128 bits
 
+wide : (v : ℤ) → neg_ℤ (pos (2 ^ 63)) ≤ℤ v → v ≤ℤ pos (2 ^ 64 - 1) → FitsSigned w128 v
+wide (pos n) low high = record { sfits = omega (arith, ints, high) }
+wide (negsuc n) low high = record { sfits = omega (arith, ints, low) }
+
 value_128 : (ty : ColType) (v : ℤ) → ValueFits v ty → FitsSigned w128 v
-value_128 Byte v h = (omega (arith, ints, h.0), omega (arith, ints, h.1))
-value_128 UByte v h = (omega (arith, ints, h.0), omega (arith, ints, h.1))
-value_128 Short v h = (omega (arith, ints, h.0), omega (arith, ints, h.1))
-value_128 UShort v h = (omega (arith, ints, h.0), omega (arith, ints, h.1))
-value_128 Int v h = (omega (arith, ints, h.0), omega (arith, ints, h.1))
-value_128 UInt v h = (omega (arith, ints, h.0), omega (arith, ints, h.1))
-value_128 Long v h = (omega (arith, ints, h.0), omega (arith, ints, h.1))
-value_128 ULong v h = (omega (arith, ints, h.0), omega (arith, ints, h.1))
-value_128 Category v h = (omega (arith, ints, h.0), omega (arith, ints, h.1))
-value_128 Text v h = (omega (arith, ints, h.0), omega (arith, ints, h.1))
+value_128 Byte v h = wide v (omega (arith, ints, h.0)) (omega (arith, ints, h.1))
+value_128 UByte v h = wide v (omega (arith, ints, h.0)) (omega (arith, ints, h.1))
+value_128 Short v h = wide v (omega (arith, ints, h.0)) (omega (arith, ints, h.1))
+value_128 UShort v h = wide v (omega (arith, ints, h.0)) (omega (arith, ints, h.1))
+value_128 Int v h = wide v (omega (arith, ints, h.0)) (omega (arith, ints, h.1))
+value_128 UInt v h = wide v (omega (arith, ints, h.0)) (omega (arith, ints, h.1))
+value_128 Long v h = wide v (omega (arith, ints, h.0)) (omega (arith, ints, h.1))
+value_128 ULong v h = wide v (omega (arith, ints, h.0)) (omega (arith, ints, h.1))
+value_128 Category v h = wide v (omega (arith, ints, h.0)) (omega (arith, ints, h.1))
+value_128 Text v h = wide v (omega (arith, ints, h.0)) (omega (arith, ints, h.1))
 
 values_128 : (ty : ColType) (vs : List ℤ) → AllByRecursion (λ v. ValueFits v ty) vs → AllByRecursion (FitsSigned w128) vs
 values_128 ty [] h = tt
@@ -143,10 +147,10 @@ module _ (m : Files) (world : World) (dir : List ℕ) (stands : Stands m world) 
   file_is : file_at m (index_name dir p.number column.name) ≡ world_.index_in p col column
   file_is = (All-at (PartRests m dir content.schema) content.parts place p listed (stands.rests dir content at).parts).indexes col column in_schema
 
-  numbers : List ℤ
+  abbrev numbers : List ℤ
   numbers = stored_numbers column.ty (column_cells col p.records)
 
-  mask : List Bool
+  abbrev mask : List Bool
   mask = map is_present (column_cells col p.records)
 
   rows_are : length mask ≡ length p.records

@@ -1,9 +1,10 @@
 -- The lines of a listing, one after another, and what stops it.
-use Rattle.std.proofs.Common.{inl, inr, ◌≡◌, ◌+◌, ◌<◌, ◌≤◌, ℕ, zero, suc, Bool, true, false, List, [], ◌∷◌, ◌++◌, length, take, map, Option, Some, None, IfSome, IsSome, is_some, Result, Ok, Err, refl, sym, ap, subst, ◌∙◌, arith, append_assoc, append-nil}
+use Rattle.std.proofs.Common.{inl, inr, ◌≡◌, ◌+◌, ◌<◌, ◌≤◌, ℕ, zero, suc, Bool, true, false, List, [], ◌∷◌, ◌++◌, length, get_or, take, map, Option, Some, None, IfSome, IsSome, is_some, Result, Ok, Err, refl, sym, ap, subst, ◌∙◌, arith, append_assoc, append-nil}
 use Rattle.std.specs.List.{AllByRecursion, flat_map, slice_get}
 use Rattle.std.specs.Prelude.{OnOk}
 use Rattle.std.proofs.lemmas.List.{map-append, take_all}
 use Rattle.std.proofs.lemmas.Grind.{flat_map-append}
+use Rattle.std.proofs.lemmas.Option.{slice_get_read}
 use Rattle.fb_outside.specs.Files.{Files}
 use Rattle.fb_outside.specs.Names.{IsPath}
 use Rattle.fb_outside.specs.Reads.{AddsOnly, Look}
@@ -42,6 +43,10 @@ take_more : {X : Type 0} (xs : List X) (k : ℕ) (x : X) → slice_get xs k ≡ 
 take_more [] k x e = absurd (cc)
 take_more (y ∷ xs) zero x e = let same : y ≡ x = some_same e in ap (λ z. z ∷ []) same
 take_more (y ∷ xs) (suc k) x e = ap (λ rest. y ∷ rest) (take_more xs k x e)
+
+-- an item of a slice, where the slice is of that list
+pub item_at : {X : Type 0} (xs items : List X) (k : ℕ) (x : X) → items ≡ xs → k < length items → x ≡ get_or items k x → slice_get xs k ≡ Some x
+item_at {X} xs items k x same less is = subst (λ (ys : List X). slice_get ys k ≡ Some x) same (slice_get_read items (length items) k x refl less is)
 
 pub take_next : {X : Type 0} (xs : List X) (k : ℕ) (x : X) → slice_get xs k ≡ Some x → take (k + 1) xs ≡ take k xs ++ x ∷ []
 take_next xs k x e = let one : k + 1 ≡ suc k = omega arith in ap (λ n. take n xs) one ∙ take_more xs k x e
@@ -244,22 +249,22 @@ module _ (files : Option Files) (dataset : Dataset) where
       let rest : map (λ (x : ListedPart). x.part) listed ≡ parts = cc in
       (subst (AreSound files dataset dataset.schema) first (l.columns, h.0), all_sound parts listed rest h.1)
 
-  first_by : (k : ℕ) (part : PartMeta) (mid : List ℕ) (stop : Unanswered) → slice_get dataset.parts k ≡ Some part → DatasetSoFar files dataset k mid
+  first_in_parts : (k : ℕ) (part : PartMeta) (mid : List ℕ) (stop : Unanswered) → slice_get dataset.parts k ≡ Some part → DatasetSoFar files dataset k mid
       → Refuses (IsFirstOfPart files dataset part) stop → Refuses (IsFirstDamaged files dataset) stop
-  first_by k part mid (Refused status) there h r =
+  first_in_parts k part mid (Refused status) there h r =
       (
         r.0,
         r.1,
         record { part = part; place = k; listed = there; before = all_sound (take k dataset.parts) h.parts h.are.are h.are.each; first = r.2 },
       )
-  first_by k part mid StoreFault there h r = tt
-  first_by k part mid OutOfMemory there h r = tt
+  first_in_parts k part mid StoreFault there h r = tt
+  first_in_parts k part mid OutOfMemory there h r = tt
 
   pub part_stops : (now : Option Files) (k : ℕ) (part : PartMeta) (mid new : List ℕ) (result : Result (Unit {0}) Unanswered) (stop : Unanswered) → now ≡ files
       → result ≡ Err stop → slice_get dataset.parts k ≡ Some part → DatasetSoFar files dataset k mid
       → PartGives now dataset part mid new result → DatasetGives files dataset (Err stop)
   part_stops now k part mid new result stop kept is there h gives =
-      first_by k part mid stop there h
+      first_in_parts k part mid stop there h
       (subst (λ (r : Result (Unit {0}) Unanswered). PartGives files dataset part mid new r) is
       (subst (λ (f : Option Files). PartGives f dataset part mid new result) kept gives))
 

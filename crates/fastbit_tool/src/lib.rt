@@ -94,4 +94,6 @@ fn is_session(asked: &Option<Job>) -> bool
 }
 
 #[cfg(test)]
+mod listing_tests;
+#[cfg(test)]
 mod tests;

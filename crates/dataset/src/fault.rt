@@ -16,6 +16,8 @@ pub enum DamageKind {
     Text,
     /// Its length isn't that of its rows.
     Length,
+    /// It is no index of its rows.
+    Index,
     /// It is no mask of its rows.
     Mask,
     /// It is no dictionary.

@@ -12,6 +12,7 @@ mod load_law;
 mod opening;
 mod part_column;
 mod part_columns;
+mod part_indexes;
 mod part_words;
 mod part_writing;
 mod refusing;
@@ -31,4 +32,5 @@ pub use load_law::{
 };
 pub use opening::open_dataset;
 pub use part_columns::{column_damage, open_part_column};
+pub use part_indexes::{index_damage, open_part_index};
 pub use part_words::open_part_dictionary;

@@ -39,7 +39,6 @@ use Rattle.statuses.specs.Opening.{Finds, damaged_status, dataset_or_refusal}
 use Rattle.statuses.specs.Outcome.{◌>>=◌}
 use Rattle.ibis.specs.declared.query.Below.{Below}
 use Rattle.ibis.specs.Count.{CountComes, CountGives, CountsBy, CountsRecords, IsCountIn, IsDamagedIn, asked_of, counted, hits}
-use Rattle.ibis.specs.Listing.{ListComes, list_result}
 use Rattle.ibis.specs.Query.{clause_of, read_query, resolved}
 use Rattle.ibis.specs.Rows.{HasColumn, HasParts, cells_in_parts, passing}
 use Rattle.ibis.specs.Steps.{IsAsked, StopsIn, stop_of_text}
@@ -244,9 +243,6 @@ module _ (m : Files) (world : World) (dir : List ℕ) (stands : Stands m world) 
       → counted (asked_of dir query (found_in world dir)) (content_at world dir) ≡ Err status
   count_refused query status h =
       ap (λ (r : Result Below Status). counted r (content_at world dir)) (refused_read query status (read_query query) refl h)
-
-  pub list_is : (result : Result (List ℕ) Status) → ListComes dir (Some m) result → list_result dir (found_in world dir) ≡ result
-  list_is result h = ap (list_result dir) (sym (found_is m world dir h.found stands path h.told)) ∙ h.is
 
 -- the count of a question is that of the world's records
 pub counts_records : (dir query text : List ℕ) (files after : Option Files) (below : Below) (dataset : Dataset) (column : Column) (result : Result ℕ Unanswered)

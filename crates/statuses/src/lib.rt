@@ -291,6 +291,7 @@ fn damage_kind(kind: DamageKind) -> &'static str
         DamageKind::Missing => "Missing",
         DamageKind::Text => "Text",
         DamageKind::Length => "Length",
+        DamageKind::Index => "Index",
         DamageKind::Mask => "Mask",
         DamageKind::Words => "Words",
     }

@@ -291,9 +291,10 @@ fn damage_kind(kind: DamageKind) -> &'static str
         DamageKind::Missing => "Missing",
         DamageKind::Text => "Text",
         DamageKind::Length => "Length",
-        DamageKind::Index => "Index",
         DamageKind::Mask => "Mask",
+        DamageKind::Starts => "Starts",
         DamageKind::Words => "Words",
+        DamageKind::Index => "Index",
     }
 }
 

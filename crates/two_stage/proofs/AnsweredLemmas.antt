@@ -23,6 +23,7 @@ use Rattle.candidates.specs.Numbers.{HasNumbers, numbers_look}
 use Rattle.candidates.specs.Reads.{IsBlockLook}
 use Rattle.candidates.specs.Texts.{HasTexts, meets, texts_look}
 use Rattle.part_meta.specs.PartText.{IsPart}
+use Rattle.part_meta.specs.declared.names.FileKind.TheVariants.{PartText, Values, Index}
 use Rattle.part_meta.specs.declared.part.PartMeta.{PartMeta}
 use Rattle.stages.specs.Answer.{AreUnknown, is_allowed_on, met_of}
 use Rattle.stages.specs.Looks.{AddsLooks}
@@ -35,7 +36,7 @@ use Rattle.two_stage.specs.Placed.{placed_at}
 use Rattle.two_stage.specs.declared.fault.EvalFault.{EvalFault}
 use Rattle.two_stage.specs.declared.open_column.OpenColumn.{OpenColumn}
 use Rattle.two_stage.specs.declared.open_column.OpenColumn.TheVariants.{Codes, Numbers, Texts}
-use Rattle.two_stage.proofs.PartStubs.{has_numbers, has_texts, values_no_bitmap, words_are}
+use Rattle.two_stage.proofs.PartFileLemmas.{has_numbers, has_texts, no_bitmap, words_are}
 use Rattle.two_stage.proofs.SecondStageLemmas.{codes_checked, column_typed, exists_checked, numbers_checked, numbers_reads, texts_checked, texts_reads}
 
 -- ---- what is answered
@@ -107,7 +108,7 @@ module _ (files : Option Files) (dir : List ℕ) (meta : PartMeta) (valid : IsPa
             (λ fault outside m means. outside _ (has_numbers files dir meta means.part col opened means.has within kept)) says.whole;
         reads = λ m means.
             numbers_reads files dir meta m means (atom.Whole col spans) opened candidates old new (IsOk result) kept.name kept.typed kept.width
-            (λ read named. values_no_bitmap files dir meta means.part col read valid means.has within named) says.reads;
+            (λ read named. no_bitmap dir meta means.part valid means.has.is col Values read within (λ (e : Values ≡ PartText). cc) (λ (e : Values ≡ Index). cc) named) says.reads;
       }
 
   codes_by : (col : ℕ) (condition : Atom) (spans : List Span) (opened : ColumnRef)
@@ -129,7 +130,7 @@ module _ (files : Option Files) (dir : List ℕ) (meta : PartMeta) (valid : IsPa
             (λ fault outside m means. outside _ (has_numbers files dir meta means.part col opened means.has within numbers)) says.whole;
         reads = λ m means.
             numbers_reads files dir meta m means (atom.Word col condition) opened candidates old new (IsOk result) numbers.name numbers.typed numbers.width
-            (λ read named. values_no_bitmap files dir meta means.part col read valid means.has within named) says.reads;
+            (λ read named. no_bitmap dir meta means.part valid means.has.is col Values read within (λ (e : Values ≡ PartText). cc) (λ (e : Values ≡ Index). cc) named) says.reads;
       }
 
   texts_by : (col : ℕ) (condition : Atom) (opened : TextRef)
@@ -147,7 +148,7 @@ module _ (files : Option Files) (dir : List ℕ) (meta : PartMeta) (valid : IsPa
         reads = λ m means.
             texts_reads files dir meta m means (atom.Word col condition) opened candidates old new (IsOk result) kept.name
             (has_texts files dir meta means.part col opened means.has within kept).starts (ap width_of kept.typed)
-            (λ read named. values_no_bitmap files dir meta means.part col read valid means.has within named) says.reads;
+            (λ read named. no_bitmap dir meta means.part valid means.has.is col Values read within (λ (e : Values ≡ PartText). cc) (λ (e : Values ≡ Index). cc) named) says.reads;
       }
 
   -- the same of a condition and a column that are so

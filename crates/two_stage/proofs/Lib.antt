@@ -1,5 +1,6 @@
 pub mod RowReadLemmas
 pub mod CheckLemmas
 pub mod SecondStageLemmas
-pub mod PartStubs
+pub mod FileLemmas
+pub mod PartFileLemmas
 pub mod AnsweredLemmas

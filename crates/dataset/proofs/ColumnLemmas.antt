@@ -100,7 +100,7 @@ module _ (files : Files) (dir : List ℕ) (number : ℕ) (column : Column) (cell
   two_there Text is some h = absurd (cc)
 
 -- a number for each row
-stored_length : (ty : ColType) (cells : List Cell) → IsSome (width_of ty) → length (stored_numbers ty cells) ≡ length cells
+pub stored_length : (ty : ColType) (cells : List Cell) → IsSome (width_of ty) → length (stored_numbers ty cells) ≡ length cells
 stored_length Byte cells some = length-map cells number_of
 stored_length UByte cells some = length-map cells number_of
 stored_length Short cells some = length-map cells number_of

@@ -1,6 +1,7 @@
+pub mod EndLemmas
+pub mod FileLemmas
 pub mod RowReadLemmas
 pub mod CheckLemmas
 pub mod SecondStageLemmas
-pub mod FileLemmas
 pub mod PartFileLemmas
 pub mod AnsweredLemmas

@@ -9,12 +9,13 @@ use Rattle.column_file.specs.Opening.{column_in, mask_in}
 use Rattle.column_file.specs.Values.{width_in}
 use Rattle.index_file.specs.Opening.{Head, index_in}
 use Rattle.index_file.specs.declared.head.IndexHead.{IndexHead}
+use Rattle.index_spec.specs.Language.{IsGiven}
 use Rattle.index_spec.specs.declared.spec.Spec.{Spec}
 use Rattle.text_column.specs.OpenedDictionary.{dictionary_of as words_in}
 use Rattle.text_column.specs.OpenedTexts.{text_in}
 use Rattle.text_column.specs.Texts.{starts_of}
 use Rattle.world.specs.Cells.{dictionary_of, texts_of}
-use Rattle.world.specs.IndexFiles.{edge_of}
+use Rattle.world.specs.IndexFiles.{HasBitmaps, edge_of}
 use Rattle.bin_answers.specs.Fetched.{HasBins}
 use Rattle.part_meaning.specs.Bitmaps.{index_places}
 use Rattle.part_meaning.specs.Columns.{PartColumn, bins_in, cell_of_row, present_rows}
@@ -42,6 +43,7 @@ pub record HasColumn (files : Option Files) (p : Placed) (column : PartColumn) :
   pub each : length column.cells ≡ p.rows
   pub fits : (row : ℕ) → CellFits (cell_of_row column row) column.ty
   pub width : (spec : Spec) → column.spec ≡ Some spec → IsSome (width_of column.ty)
+  pub indexed : (spec : Spec) → column.spec ≡ Some spec → IsGiven spec × HasBitmaps spec column.ty column.cells
   pub mask : mask_in p.rows (file_at m (mask_file p)) ≡ Ok (present_rows column)
   pub numbers : IsSome (width_of p.column.ty)
       → column_in (width_in p.column.ty) p.rows (file_at m (values_file p)) (file_at m (mask_file p)) ≡ Ok (present_rows column)

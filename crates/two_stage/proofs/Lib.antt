@@ -1,3 +1,9 @@
+pub mod FreeLemmas
 pub mod EndLemmas
 pub mod FileLemmas
 pub mod HeadLemmas
+pub mod RowReadLemmas
+pub mod CheckLemmas
+pub mod SecondStageLemmas
+pub mod PartFileLemmas
+pub mod AnsweredLemmas

@@ -1,6 +1,8 @@
 //! The conditions on the columns of a part, over its files.
 
 ghost use Rattle.std.specs.Prelude.{◌≡◌, ◌<◌, length};
+ghost use Rattle.fb_outside.specs.Names.{IsPath};
+ghost use Rattle.part_meta.specs.PartText.{IsPart};
 ghost use Rattle.two_stage.specs.Placed.{placed_at};
 
 use crate::checking::{check_numbers, check_texts};
@@ -42,7 +44,9 @@ impl<'a> PartConditions<'a> {
     /// Where the files of a column are.
     fn placed(&self, col: usize) -> PlacedColumn<'_>
         requires { col < length self.now.meta.schema }
-        ensures { result ≡ placed_at self.now.dir self.now.meta col }
+        ensures place { result ≡ placed_at self.now.dir self.now.meta col }
+        ensures path { IsPath self.now.dir }
+        ensures part { IsPart self.now.meta }
     {
         PlacedColumn {
             dir: self.dir,

@@ -107,3 +107,19 @@ module _ (files : Option Files) (dataset : Dataset) (plan : Plan) (valid : IsDat
         let is = are.each place meta p.0 listed p.1 in
         walked_more files dataset parts plan (allowed_of dataset plan) valid are named old mid new before then_ now place p.0 p.1 (h.walked parts are) (k.reads p.0 is) (k.steps p.0 is);
   }
+
+-- ---- all parts
+
+ones_each : {X : Type 0} (f : X → List Bool) (xs : List X) → sum_by ones (map f xs) ≡ sum_by (λ x. ones (f x)) xs
+ones_each f [] = refl
+ones_each f (x ∷ xs) =
+    let rest = ones_each f xs in
+    omega (arith, rest, sum_by-cons ones (f x) (map f xs), sum_by-cons (λ y. ones (f y)) x xs)
+
+pub all_hits : (files : Option Files) (dataset : Dataset) (plan : Plan) (old new : Option (List Look)) (before now place : ℕ) (vectors : List (List Bool)) (hits checked : ℕ)
+    (parts : List Partition) → ChosenTo files dataset plan old before place vectors hits checked new now → AreParts files dataset parts → length parts ≤ place
+    → hits ≡ hits_over plan parts
+unfolding rows_chosen hits_over
+all_hits files dataset plan old new before now place vectors hits checked parts h are past =
+    h.count ∙ ap (sum_by ones) (h.rows parts are) ∙ ap (λ ps. sum_by ones (map (rows_that_hold plan) ps)) (all_taken parts place past)
+    ∙ ones_each (rows_that_hold plan) parts

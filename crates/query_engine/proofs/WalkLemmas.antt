@@ -7,8 +7,8 @@ use Rattle.fb_outside.specs.Reads.{Look}
 use Rattle.where_plan.specs.declared.plan.Plan.{Plan}
 use Rattle.stages.specs.Answer.{bitmaps_in}
 use Rattle.stages.specs.Looks.{AddsLooks}
-use Rattle.stages.proofs.ListLemmas.{any_at, flat_map_front, flat_map_taken, map_taken, sum_by_front, sum_by_taken}
-use Rattle.stages.proofs.LookLemmas.{adds_front, adds_joined, adds_none, adds_weaker}
+use Rattle.stages.proofs.ListLemmas.{all_taken, any_at, flat_map_front, flat_map_taken, map_taken, sum_by_front, sum_by_taken}
+use Rattle.stages.proofs.LookLemmas.{adds_done, adds_front, adds_joined, adds_none, adds_weaker}
 use Rattle.world.specs.World.{Partition}
 use Rattle.dataset.specs.Opened.{IsDataset}
 use Rattle.dataset.specs.declared.content.Dataset.{Dataset}
@@ -73,6 +73,14 @@ module _ (files : Option Files) (dataset : Dataset) (parts : List Partition) (pl
     reads = more_reads old mid new place part (Unit {0}) there h.reads k;
     steps = more_steps before then_ now place part there h.steps l;
   }
+
+  -- all parts
+  pub whole_reads : (old new : Option (List Look)) (before now place : ℕ) (done : Type 0) → length parts ≤ place
+      → Walked dataset parts plan allowed old before place new now
+      → AddsLooks old new (over allowed parts) (is_bitmap_over dataset parts) (bitmaps_over dataset parts plan) done
+  whole_reads old new before now place done past h =
+      adds_done old new (over allowed parts) (is_bitmap_over dataset parts) (bitmaps_over dataset parts plan) (Unit {0}) done (λ is. tt)
+      (subst (λ ps. AddsLooks old new (over allowed parts) (is_bitmap_over dataset parts) (bitmaps_over dataset ps plan) (Unit {0})) (all_taken parts place past) h.reads)
 
   -- where a part is refused the reads are a front of all
   pub refused_reads : (old mid new : Option (List Look)) (before then_ place : ℕ) (part : Partition) (done more : Type 0) → slice_get parts place ≡ Some part

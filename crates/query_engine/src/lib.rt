@@ -16,7 +16,9 @@ mod listed;
 pub use bounding::bounds;
 pub use choosing::{Chosen, choose};
 pub use fault::AskFault;
-pub use laws::estimates_enclose_hits;
+pub use laws::{
+    estimates_enclose_hits, the_damage_of_columns, the_hits_of_clauses, the_parts_of_a_world,
+};
 
 #[cfg(test)]
 mod tests;

@@ -59,7 +59,7 @@ columns_there files dir part from (first ∷ rest) (suc col) column h e =
     (columns_there files dir part (from + 1) rest col column
     (All-right (IsThere files) (column_files dir part.number first (column_cells from part.records)) (columns_files dir part (from + 1) rest) h) e)
 
-column_there : (files : Files) (dir : List ℕ) (schema : List Column) (part : Partition) (col : ℕ) (column : Column)
+pub column_there : (files : Files) (dir : List ℕ) (schema : List Column) (part : Partition) (col : ℕ) (column : Column)
     → PartRests files dir schema part → slice_get schema col ≡ Some column
     → All (IsThere files) (column_files dir part.number column (column_cells col part.records))
 unfolding part_files
@@ -105,7 +105,7 @@ module _ (files : Files) (dir : List ℕ) (number : ℕ) (column : Column) (cell
   two_there Text is some h = absurd (cc)
 
 -- a number for each row
-stored_length : (ty : ColType) (cells : List Cell) → IsSome (width_of ty) → length (stored_numbers ty cells) ≡ length cells
+pub stored_length : (ty : ColType) (cells : List Cell) → IsSome (width_of ty) → length (stored_numbers ty cells) ≡ length cells
 stored_length Byte cells some = length-map cells number_of
 stored_length UByte cells some = length-map cells number_of
 stored_length Short cells some = length-map cells number_of
@@ -117,7 +117,7 @@ stored_length ULong cells some = length-map cells number_of
 stored_length Category cells some = length-map cells (code_of (dictionary_of cells))
 stored_length Text cells some = absurd (cc)
 
-has_numbers_by : (files : Files) (dir : List ℕ) (schema : List Column) (part : Partition) (col : ℕ) (column : Column) → IsPartition schema part
+pub has_numbers_by : (files : Files) (dir : List ℕ) (schema : List Column) (part : Partition) (col : ℕ) (column : Column) → IsPartition schema part
     → PartRests files dir schema part → slice_get schema col ≡ Some column → IsSome (width_of column.ty)
     → HasNumbers files dir part.number column (column_cells col part.records)
 has_numbers_by files dir schema part col column valid rests at some =

@@ -6,3 +6,4 @@ pub mod CheckLemmas
 pub mod SecondStageLemmas
 pub mod PartFileLemmas
 pub mod AnsweredLemmas
+pub mod OpenLemmas

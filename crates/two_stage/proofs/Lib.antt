@@ -7,3 +7,4 @@ pub mod SecondStageLemmas
 pub mod PartFileLemmas
 pub mod AnsweredLemmas
 pub mod OpenLemmas
+pub mod AnswerLemmas

@@ -1,5 +1,5 @@
 -- What a check of each kind of condition owes where the files are a part's, from what its column's values say.
-use Rattle.std.proofs.Common.{◌≡◌, ℕ, ◌<◌, ◌≤◌, ◌+◌, Bool, true, false, List, [], length, map, Option, Some, None, IsSome, ℤ, Result, Ok, Err, IfOk, refl, sym, ap, subst, ◌∙◌, arith}
+use Rattle.std.proofs.Common.{◌≡◌, ℕ, ◌<◌, Bool, true, List, [], length, map, Option, Some, None, IsSome, ℤ, Result, Ok, Err, IfOk, refl, sym, ap, subst, ◌∙◌}
 use Rattle.std.specs.Prelude.{IfErr, IsOk, is_none, option_map, slice_get}
 use Rattle.std.proofs.lemmas.Option.{slice_get_within}
 use Rattle.std.proofs.lemmas.Result.{IfOk-weaker}
@@ -165,23 +165,23 @@ module _ (files : Option Files) (dir : List ℕ) (meta : PartMeta) (valid : IsPa
     whole_answered col spans opened is same =
         as_is (SaysNumbers files opened spans candidates old new result) (atom.Whole col spans) (Numbers opened) is same (whole_by col spans opened)
 
-    pub codes_answered : (col : ℕ) (atom_ : Atom) (spans : List Span) (opened : ColumnRef) → condition ≡ atom.Word col atom_ → column ≡ Codes opened spans
+    pub codes_answered : (col : ℕ) (asked : Atom) (spans : List Span) (opened : ColumnRef) → condition ≡ atom.Word col asked → column ≡ Codes opened spans
         → FitsColumn meta.schema condition → IsKept files dir meta condition column
         → ((m : Meaning) → Means files dir meta m → AreUnknown m condition candidates)
         → SaysNumbers files opened spans candidates old new result
         → IsAnswered files dir meta condition candidates old new result
     unfolding Owes
-    codes_answered col atom_ spans opened is same =
-        as_is (SaysNumbers files opened spans candidates old new result) (atom.Word col atom_) (Codes opened spans) is same (codes_by col atom_ spans opened)
+    codes_answered col asked spans opened is same =
+        as_is (SaysNumbers files opened spans candidates old new result) (atom.Word col asked) (Codes opened spans) is same (codes_by col asked spans opened)
 
-    pub texts_answered : (col : ℕ) (atom_ : Atom) (opened : TextRef) → condition ≡ atom.Word col atom_ → column ≡ Texts opened
+    pub texts_answered : (col : ℕ) (asked : Atom) (opened : TextRef) → condition ≡ atom.Word col asked → column ≡ Texts opened
         → FitsColumn meta.schema condition → IsKept files dir meta condition column
         → ((m : Meaning) → Means files dir meta m → AreUnknown m condition candidates)
-        → SaysTexts files opened atom_ candidates old new result
+        → SaysTexts files opened asked candidates old new result
         → IsAnswered files dir meta condition candidates old new result
     unfolding Owes
-    texts_answered col atom_ opened is same =
-        as_is (SaysTexts files opened atom_ candidates old new result) (atom.Word col atom_) (Texts opened) is same (texts_by col atom_ opened)
+    texts_answered col asked opened is same =
+        as_is (SaysTexts files opened asked candidates old new result) (atom.Word col asked) (Texts opened) is same (texts_by col asked opened)
 
 -- `exists` finds its candidates, of which there are none
 pub exists_answered : (files : Option Files) (dir : List ℕ) (meta : PartMeta) (condition : PlanAtom) (col : ℕ) (candidates found : List Bool)

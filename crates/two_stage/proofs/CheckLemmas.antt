@@ -1,5 +1,5 @@
 -- What is found on candidates by their values is on which of them the condition is true.
-use Rattle.std.proofs.Common.{◌≡◌, ℕ, zero, suc, ◌+◌, ◌*◌, ◌<◌, ◌≤◌, Bool, true, false, ◌&&◌, List, [], ◌∷◌, length, map, get_or, MatchOption, Option, Some, None, IsSome, unwrap_or, ℤ, pos, ◌≤ℤ◌, refl, sym, ap, subst, ◌∙◌, arith}
+use Rattle.std.proofs.Common.{◌≡◌, ℕ, suc, ◌+◌, ◌*◌, ◌<◌, ◌≤◌, Bool, true, false, ◌&&◌, List, [], ◌∷◌, length, map, get_or, MatchOption, Option, Some, None, IsSome, unwrap_or, ℤ, pos, ◌≤ℤ◌, refl, sym, ap, subst, ◌∙◌, arith}
 use Rattle.std.specs.Prelude.{is_none, is_some}
 use Rattle.std.specs.List.{range_with_len}
 use Rattle.std.proofs.lemmas.Int.{ints}
@@ -13,7 +13,7 @@ use Rattle.fb_types.specs.declared.types.ColType.{ColType}
 use Rattle.fb_types.specs.Cells.{CellFits}
 use Rattle.fb_types.specs.Types.{ends_of, width_of}
 use Rattle.binning.specs.Spans.{has, in_span, int_le}
-use Rattle.binning.specs.declared.against_bins.Three.TheVariants.{No, Unknown}
+use Rattle.binning.specs.declared.against_bins.Three.TheVariants.{Unknown}
 use Rattle.binning.specs.declared.span_lists.Span.{Span}
 use Rattle.binning.proofs.TestLemmas.{int_le-true}
 use Rattle.text_column.proofs.DictionaryLemmas.{word_of_code}
@@ -25,19 +25,19 @@ use Rattle.wah_words.specs.Spelling.{words_of}
 use Rattle.where_grammar.specs.declared.clause.Atom.{Atom}
 use Rattle.where_grammar.specs.Holds.{is_met, is_there, number_passes}
 use Rattle.where_plan.specs.Plans.{FitsColumn, place_in}
-use Rattle.where_plan.specs.PlanHolds.{cell_at, plan_atom_holds}
+use Rattle.where_plan.specs.PlanHolds.{plan_atom_holds}
 use Rattle.where_plan.specs.SpansOf.{code_meets, code_range, some_passes}
 use Rattle.where_plan.specs.declared.plan.PlanAtom.{PlanAtom}
 use Rattle.where_plan.specs.declared.plan.PlanAtom.TheVariants as atom
 use Rattle.candidates.specs.Texts.{meets}
 use Rattle.stages.specs.Answer.{AreUnknown, met_of}
-use Rattle.world.specs.Cells.{code_of, dictionary_of, number_of, stored_numbers, texts_of, word_of}
+use Rattle.world.specs.Cells.{dictionary_of, stored_numbers, texts_of, word_of}
 use Rattle.world.specs.World.{IsPartition, Partition}
-use Rattle.part_meaning.specs.Columns.{PartColumn, cell_of_row, column_at}
+use Rattle.part_meaning.specs.Columns.{cell_of_row, column_at}
 use Rattle.part_meaning.specs.Meaning.{meaning_of}
 use Rattle.part_meaning.specs.Parts.{column_for, known_in, record_of}
 use Rattle.part_meaning.proofs.CodeLemmas.{code_within, row_coded}
-use Rattle.part_meaning.proofs.ColumnLemmas.{IsColumn, cell_is, is_column, number_by, stored_by}
+use Rattle.part_meaning.proofs.ColumnLemmas.{cell_is, is_column, number_by, stored_by}
 use Rattle.part_meaning.proofs.KnownLemmas.{null_no, type_for}
 
 -- ---- vectors

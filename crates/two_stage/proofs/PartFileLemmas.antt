@@ -1,14 +1,14 @@
 -- What the files of a part say of an open column of it.
-use Rattle.std.proofs.Common.{◌≡◌, ℕ, zero, suc, ◌+◌, ◌<◌, ◌≤◌, Bool, true, false, ◌&&◌, ◌||◌, List, [], ◌∷◌, All, length, map, get_or, Option, Some, None, Result, Ok, IsSome, refl, sym, ap, subst, ◌∙◌, arith}
+use Rattle.std.proofs.Common.{◌≡◌, ℕ, zero, suc, ◌+◌, ◌<◌, Bool, true, false, ◌&&◌, ◌||◌, List, [], ◌∷◌, All, length, map, get_or, Option, Some, None, Result, Ok, refl, sym, ap, subst, ◌∙◌, arith}
 use Rattle.std.specs.Prelude.{IfSome, IsSomeAnd}
-use Rattle.std.specs.List.{list_any, range_with_len, slice_get}
+use Rattle.std.specs.List.{list_any, range_with_len}
 use Rattle.std.specs.Str.{bytes_eq}
 use Rattle.std.proofs.lemmas.List.{length-map}
 use Rattle.std.proofs.lemmas.List.Elements.{All-head}
 use Rattle.std.proofs.lemmas.Option.{slice_get-get_or}
 use Rattle.std.proofs.lemmas.Slice.Eq.{bytes_eq-Decides}
 use Rattle.fb_outside.specs.Files.{Files, file_at, told_at}
-use Rattle.fb_outside.specs.Puts.{File, IsThere}
+use Rattle.fb_outside.specs.Puts.{IsThere}
 use Rattle.fb_outside.specs.Reads.{Look}
 use Rattle.fb_types.specs.Names.{IsColumnName}
 use Rattle.fb_types.specs.declared.cells.Cell.{Cell}
@@ -36,13 +36,13 @@ use Rattle.world.specs.Stands.{PartRests}
 use Rattle.world.specs.World.{Partition}
 use Rattle.world.proofs.PlaceLemmas.{All-at}
 use Rattle.dataset.proofs.ColumnLemmas.{column_there, has_numbers_by}
-use Rattle.part_meaning.specs.Columns.{PartColumn, column_at, no_column}
+use Rattle.part_meaning.specs.Columns.{column_at, no_column, present_rows}
 use Rattle.part_meaning.specs.Files.{is_bitmap_of}
 use Rattle.part_meaning.specs.Meaning.{IsPartAt}
 use Rattle.part_meaning.specs.Parts.{is_bitmap_in}
 use Rattle.two_stage.specs.Kept.{IsNumbersOf, IsTextsOf}
-use Rattle.two_stage.specs.Placed.{placed_at, values_file, words_file}
-use Rattle.two_stage.proofs.FileLemmas.{texts_open, words_open}
+use Rattle.two_stage.specs.Placed.{mask_file, placed_at, starts_file, values_file, words_file}
+use Rattle.two_stage.proofs.FileLemmas.{has_column}
 
 -- ---- only an index has bitmaps
 
@@ -77,8 +77,8 @@ module _ (dir : List ℕ) (meta : PartMeta) (part : Partition) (valid : IsPart m
       (λ same.
       let equal = (bytes_eq-Decides read.name (index_name dir part.number (get_or meta.schema other no_column).name)).0 same in
       let both = same_file dir dir meta.number part.number (Some (get_or meta.schema col no_column).name) (Some (get_or meta.schema other no_column).name)
-          kind Index valid.number (subst (λ n. n < 4096) number valid.number)
-          (called kind (get_or meta.schema col no_column).name column (column_named col within)) (column_named other among) (sym named ∙ equal) in
+      kind Index valid.number (subst (λ n. n < 4096) number valid.number)
+      (called kind (get_or meta.schema col no_column).name column (column_named col within)) (column_named other among) (sym named ∙ equal) in
       bitmap both.3)
     where
       by : (more b : Bool) → (b ≡ true → ⊥) → (b && more) ≡ false
@@ -105,6 +105,7 @@ told_files : (files : Option Files) (P : Files → Type 0) → IsSomeAnd files P
 told_files None P h = absurd h
 told_files (Some m) P h = record { m = m; told = refl; holds = h }
 
+-- an open column of numbers or codes has those that the part's cells leave
 pub has_numbers : (files : Option Files) (dir : List ℕ) (meta : PartMeta) (part : Partition) (col : ℕ) (opened : ColumnRef)
     → IsPartAt files dir meta part → col < length meta.schema → IsNumbersOf files (placed_at dir meta col) opened
     → HasNumbers files opened (stored_numbers (column_at meta.schema part col).ty (column_at meta.schema part col).cells)
@@ -140,51 +141,38 @@ same_starts opened a b v w h k =
     let both : (a, v) ≡ (b, w) = cc in
     ap (λ (pair : List ℕ × List Bool). pair.0) both
 
+-- an open column of texts has the part's
 pub has_texts : (files : Option Files) (dir : List ℕ) (meta : PartMeta) (part : Partition) (col : ℕ) (opened : TextRef)
     → IsPartAt files dir meta part → col < length meta.schema → IsTextsOf files (placed_at dir meta col) opened
     → HasTexts files opened (texts_of (column_at meta.schema part col).cells)
 unfolding column_at
 has_texts files dir meta part col opened has within kept =
     let t = told_files files (λ m. PartRests m dir meta.schema part) has.rests in
-    let m = t.m in
     let column = get_or meta.schema col no_column in
-    let cells = column_cells col part.records in
-    let number : meta.number ≡ part.number = ap (λ (p : PartMeta). p.number) has.is in
-    let rows : meta.rows ≡ length part.records = ap (λ (p : PartMeta). p.rows) has.is in
-    let there = text_there m dir part.number column.name cells column.ty kept.typed
-        (column_there m dir meta.schema part col column t.holds (slice_get-get_or meta.schema col no_column within)) in
-    let opens : text_in meta.rows (file_at m (values_name dir meta.number column.name)) (file_at m (file_name dir meta.number (Some column.name) Starts))
-        (file_at m (mask_name dir meta.number column.name)) ≡ Ok (opened.starts.items, kept.mask)
-        = subst (λ o. IfSome o (λ m. text_in meta.rows (file_at m (values_name dir meta.number column.name)) (file_at m (file_name dir meta.number (Some column.name) Starts))
-        (file_at m (mask_name dir meta.number column.name)) ≡ Ok (opened.starts.items, kept.mask))) t.told kept.opens in
-    let written = texts_open m dir meta.schema part col has.valid t.holds within kept.typed in
-    let opens_too = subst (λ k. text_in k (file_at m (values_name dir part.number column.name)) (file_at m (file_name dir part.number (Some column.name) Starts))
-        (file_at m (mask_name dir part.number column.name)) ≡ Ok (starts_of (texts_of cells), map is_present cells)) (sym rows) written in
-    let opens_here = subst (λ n. text_in meta.rows (file_at m (values_name dir n column.name)) (file_at m (file_name dir n (Some column.name) Starts))
-        (file_at m (mask_name dir n column.name)) ≡ Ok (starts_of (texts_of cells), map is_present cells)) (sym number) opens_too in
+    let p = placed_at dir meta col in
+    let number : meta.number ≡ part.number = ap (λ (x : PartMeta). x.number) has.is in
+    let own = has_column files dir meta part col has within in
+    let opens = subst (λ o. IfSome o (λ m. text_in p.rows (file_at m (values_file p)) (file_at m (starts_file p)) (file_at m (mask_file p)) ≡ Ok (opened.starts.items, kept.mask))) own.told kept.opens in
     record {
       told =
-          ap (λ o. told_at o opened.name) t.told
-          ∙ ap (file_at m) (kept.name ∙ ap (λ n. values_name dir n column.name) number) ∙ there;
-      starts = same_starts (text_in meta.rows (file_at m (values_name dir meta.number column.name)) (file_at m (file_name dir meta.number (Some column.name) Starts))
-          (file_at m (mask_name dir meta.number column.name))) opened.starts.items (starts_of (texts_of cells)) kept.mask (map is_present cells) opens opens_here;
+          ap (λ o. told_at o opened.name) t.told ∙ ap (file_at t.m) (kept.name ∙ ap (λ n. values_name dir n column.name) number)
+          ∙ text_there t.m dir part.number column.name (column_cells col part.records) column.ty kept.typed
+          (column_there t.m dir meta.schema part col column t.holds (slice_get-get_or meta.schema col no_column within));
+      starts =
+          same_starts (text_in p.rows (file_at own.m (values_file p)) (file_at own.m (starts_file p)) (file_at own.m (mask_file p)))
+          opened.starts.items (starts_of (texts_of (column_cells col part.records))) kept.mask (present_rows (column_at meta.schema part col))
+          opens (own.texts kept.typed);
     }
 
 same_words : {F : Type 0} (opened : Result (List (List ℕ)) F) (a b : List (List ℕ)) → opened ≡ Ok a → opened ≡ Ok b → a ≡ b
 same_words opened a b h k = cc
 
+-- the words that a category's file has are those of its cells
 pub words_are : (files : Option Files) (dir : List ℕ) (meta : PartMeta) (part : Partition) (col : ℕ) (words : List (List ℕ))
     → IsPartAt files dir meta part → col < length meta.schema → (placed_at dir meta col).column.ty ≡ Category
     → IfSome files (λ m. words_in (file_at m (words_file (placed_at dir meta col))) ≡ Ok words)
     → words ≡ dictionary_of (column_at meta.schema part col).cells
-unfolding column_at
 words_are files dir meta part col words has within typed read =
-    let t = told_files files (λ m. PartRests m dir meta.schema part) has.rests in
-    let column = get_or meta.schema col no_column in
-    let cells = column_cells col part.records in
-    let number : meta.number ≡ part.number = ap (λ (p : PartMeta). p.number) has.is in
-    let opens : words_in (file_at t.m (file_name dir meta.number (Some column.name) Words)) ≡ Ok words
-        = subst (λ o. IfSome o (λ m. words_in (file_at m (file_name dir meta.number (Some column.name) Words)) ≡ Ok words)) t.told read in
-    let written = subst (λ n. words_in (file_at t.m (file_name dir n (Some column.name) Words)) ≡ Ok (dictionary_of cells)) (sym number)
-        (words_open t.m dir meta.schema part col has.valid t.holds within typed) in
-    same_words (words_in (file_at t.m (file_name dir meta.number (Some column.name) Words))) words (dictionary_of cells) opens written
+    let own = has_column files dir meta part col has within in
+    same_words (words_in (file_at own.m (words_file (placed_at dir meta col)))) words (dictionary_of (column_at meta.schema part col).cells)
+    (subst (λ o. IfSome o (λ m. words_in (file_at m (words_file (placed_at dir meta col))) ≡ Ok words)) own.told read) (own.words typed)

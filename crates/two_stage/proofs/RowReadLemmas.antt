@@ -1,8 +1,7 @@
 -- The bytes of a block of candidates are of these rows, so the reads of candidates are allowed.
-use Rattle.std.proofs.Common.{◌≡◌, ℕ, zero, suc, ◌+◌, ◌-◌, ◌*◌, ◌<◌, ◌≤◌, Bool, true, false, IsTrue, ◌&&◌, ◌||◌, cond, nat_le, nat_lt, List, [], ◌∷◌, ◌++◌, get_or, Option, Some, None, IsSome, unwrap_or, refl, sym, ap, subst, ◌∙◌, arith}
+use Rattle.std.proofs.Common.{◌≡◌, ℕ, zero, suc, ◌+◌, ◌-◌, ◌*◌, ◌<◌, ◌≤◌, Bool, true, false, IsTrue, ◌&&◌, ◌||◌, cond, nat_lt, List, [], ◌∷◌, ◌++◌, get_or, Option, Some, None, IsSome, unwrap_or, refl, sym, ap, subst, ◌∙◌, arith}
 use Rattle.std.specs.Prelude.{slice_index}
 use Rattle.std.specs.List.{AllByRecursion, filter, list_all, list_any, range_with_len}
-use Rattle.std.specs.Str.{bytes_eq}
 use Rattle.std.proofs.lemmas.Bool.{le-leb, lt-ltb, ltb-false, ltb-true}
 use Rattle.std.proofs.lemmas.Slice.Eq.{bytes_eq-Decides}
 use Rattle.fb_outside.specs.Reads.{AddsOnly, Look}
@@ -58,7 +57,7 @@ row_of_byte start byte first (suc n) low high =
 between_ends : (from to place : ℕ) → from ≤ place → place < to → is_between (from, to) place ≡ true
 between_ends from to place low high = ap (λ t. t && nat_lt place to) (le-leb from place low) ∙ lt-ltb place to high
 
-or_true : (a : Bool) {b : Bool} → b ≡ true → (a || b) ≡ true
+pub or_true : (a : Bool) {b : Bool} → b ≡ true → (a || b) ≡ true
 or_true true h = refl
 or_true false h = h
 

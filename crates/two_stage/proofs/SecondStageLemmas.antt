@@ -1,5 +1,5 @@
 -- What the second stage of a condition on a part finds on its candidates, and that its reads are allowed.
-use Rattle.std.proofs.Common.{◌≡◌, ℕ, ◌+◌, ◌*◌, ◌≤◌, ◌||◌, Bool, true, false, IsTrue, List, [], length, map, Option, Some, None, IsSome, ℤ, refl, sym, ap, subst, ◌∙◌, arith}
+use Rattle.std.proofs.Common.{◌≡◌, ℕ, Bool, true, false, IsTrue, List, [], length, map, Option, None, IsSome, ℤ, refl, sym, ap, subst, ◌∙◌}
 use Rattle.fb_outside.specs.Files.{Files}
 use Rattle.fb_outside.specs.Reads.{AddsOnly, Look}
 use Rattle.fb_types.specs.Types.{width_of}
@@ -25,16 +25,12 @@ use Rattle.stages.specs.Looks.{AddsLooks}
 use Rattle.stages.specs.Meaning.{Meaning}
 use Rattle.world.specs.Cells.{dictionary_of, stored_numbers, texts_of}
 use Rattle.world.specs.World.{Partition}
-use Rattle.part_meaning.specs.Columns.{PartColumn, column_at}
+use Rattle.part_meaning.specs.Columns.{column_at}
 use Rattle.part_meaning.specs.Meaning.{Means, meaning_of}
 use Rattle.part_meaning.specs.Parts.{column_for, is_bitmap_in}
 use Rattle.two_stage.specs.Placed.{placed_at, placed_of, values_file}
 use Rattle.two_stage.proofs.CheckLemmas.{codes_met, exists_met, numbers_met, texts_met}
-use Rattle.two_stage.proofs.RowReadLemmas.{adds_allowed, numbers_of_rows, texts_of_rows}
-
-or_second : (a b : Bool) → b ≡ true → (a || b) ≡ true
-or_second true b h = refl
-or_second false b h = h
+use Rattle.two_stage.proofs.RowReadLemmas.{adds_allowed, numbers_of_rows, or_true, texts_of_rows}
 
 pub column_typed : (dir : List ℕ) (meta : PartMeta) (part : Partition) (col : ℕ) → (column_at meta.schema part col).ty ≡ (placed_at dir meta col).column.ty
 unfolding column_at
@@ -120,7 +116,7 @@ module _ (files : Option Files) (dir : List ℕ) (meta : PartMeta) (m : Meaning)
       let part_means = meaning_of dir meta.schema means.part in
       subst (λ (x : Meaning). AddsLooks old new (is_allowed_on x condition (rows_of candidates)) x.is_bitmap [] done) (sym means.meant)
       (adds_allowed old new P (is_allowed_on part_means condition (rows_of candidates)) part_means.is_bitmap done
-      (λ read p. or_second (part_means.is_free condition read) (part_means.covers condition (rows_of candidates) read) (covered read p)) other reads)
+      (λ read p. or_true (part_means.is_free condition read) (covered read p)) other reads)
 
   pub numbers_reads : (condition : PlanAtom) (opened : ColumnRef) (candidates : List Bool) (old new : Option (List Look)) (done : Type 0)
       → opened.name ≡ values_file (placed_of dir meta condition) → opened.ty ≡ (placed_of dir meta condition).column.ty

@@ -1,5 +1,5 @@
 -- What the second stage of a part's condition answers, reads and looks at, condition by condition.
-use Rattle.std.proofs.Common.{◌≡◌, ℕ, ◌≤◌, ◌+◌, arith}
+use Rattle.std.proofs.Common.{◌≤◌, ◌+◌, arith}
 use Rattle.wah_words.specs.Spelling.{words_of}
 use Rattle.two_stage.proofs.AnsweredLemmas.{IsAnswered, codes_answered, exists_answered, texts_answered, whole_answered}
 use Rattle.two_stage.proofs.CheckLemmas.{few_steps}

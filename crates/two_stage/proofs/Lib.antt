@@ -1,3 +1,4 @@
+pub mod FreeLemmas
 pub mod EndLemmas
 pub mod FileLemmas
 pub mod RowReadLemmas

@@ -6,4 +6,5 @@ pub mod RowReadLemmas
 pub mod CheckLemmas
 pub mod SecondStageLemmas
 pub mod PartFileLemmas
+pub mod NameLemmas
 pub mod AnsweredLemmas

@@ -21,4 +21,6 @@ pub use laws::{
 };
 
 #[cfg(test)]
+mod sample_files;
+#[cfg(test)]
 mod tests;

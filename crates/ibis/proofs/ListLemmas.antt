@@ -1,24 +1,17 @@
 -- The lines of a listing, one after another, and what stops it.
-use Rattle.std.proofs.Common.{inl, inr, ◌≡◌, ◌+◌, ◌<◌, ◌≤◌, ℕ, zero, suc, Bool, true, false, List, [], ◌∷◌, ◌++◌, length, get_or, take, map, Option, Some, None, IfSome, IsSome, is_some, Result, Ok, Err, refl, sym, ap, subst, ◌∙◌, arith, append_assoc, append-nil}
+use Rattle.std.proofs.Common.{◌≡◌, ◌+◌, ◌<◌, ◌≤◌, ℕ, zero, suc, Bool, true, false, List, [], ◌∷◌, ◌++◌, length, get_or, take, map, Option, Some, None, IfSome, is_some, Result, Ok, Err, refl, sym, ap, subst, ◌∙◌, arith, append_assoc, append-nil}
 use Rattle.std.specs.List.{AllByRecursion, flat_map, slice_get}
-use Rattle.std.specs.Prelude.{OnOk}
 use Rattle.std.proofs.lemmas.List.{map-append, take_all}
 use Rattle.std.proofs.lemmas.Grind.{flat_map-append}
 use Rattle.std.proofs.lemmas.Option.{slice_get_read}
 use Rattle.fb_outside.specs.Files.{Files}
-use Rattle.fb_outside.specs.Names.{IsPath}
 use Rattle.fb_outside.specs.Reads.{AddsOnly, Look}
 use Rattle.fb_outside.proofs.ReadLemmas.{AddsOnly-trans, AddsOnly-weaken}
 use Rattle.fb_types.specs.declared.schemas.Column.{Column}
 use Rattle.fb_types.specs.Types.{width_of}
-use Rattle.index_spec.specs.declared.spec.Spec.{Spec}
-use Rattle.index_file.specs.Opening.{Head, IsHeadLook, opened_index}
-use Rattle.index_file.specs.declared.fault.IndexFault.{IndexFault}
+use Rattle.index_file.specs.Opening.{IsHeadLook}
 use Rattle.index_file.specs.declared.head.IndexHead.{IndexHead}
 use Rattle.part_meta.specs.declared.part.PartMeta.{PartMeta}
-use Rattle.dataset.specs.Damage.{Damage}
-use Rattle.dataset.specs.Found.{IsFound, There}
-use Rattle.dataset.specs.Opened.{IsTextLook}
 use Rattle.dataset.specs.PartColumns.{IfDamaged}
 use Rattle.dataset.specs.PartIndexes.{IsOfIndex, OpensIndex, index_at, index_file}
 use Rattle.dataset.specs.declared.content.Dataset.{Dataset}
@@ -29,7 +22,7 @@ use Rattle.statuses.specs.declared.stop.Unanswered.TheVariants.{Refused, StoreFa
 use Rattle.ibis.specs.Indexes.{AreIndexes, AreSound, Indexed, IsDamaged, IsFirstDamaged, IsFirstOfPart, spec_at, spec_said}
 use Rattle.ibis.specs.Listing.{AreListed, IsListed, ListedPart, column_line, index_line, line_by, listing, part_line, part_lines, schema_line}
 use Rattle.ibis.specs.ListSteps.{DatasetGives, IndexGives, PartGives, Refuses}
-use Rattle.ibis.specs.Looks.{IsIndexLook, IsListLook, IsPartIndexLook}
+use Rattle.ibis.specs.Looks.{IsIndexLook, IsPartIndexLook}
 use Rattle.ibis.specs.Steps.{stop_of_part}
 
 all_joined : {X : Type 0} (P : X → Type 0) (xs ys : List X) → AllByRecursion P xs → AllByRecursion P ys → AllByRecursion P (xs ++ ys)
@@ -84,23 +77,21 @@ module _ (files : Option Files) (dataset : Dataset) (part : PartMeta) (column : 
   pub line_gives : (head : IndexHead) (old new : List ℕ) → is_some (width_of column.ty) ≡ true
       → IfSome files (λ m. OpensIndex m dataset part column (Ok (Some head))) → new ≡ old ++ index_line column.name head.spec
       → IndexGives files dataset part column old new (Ok tt)
-  line_gives head old new w opens e =
-      (
-        Some head.spec,
-        when_told (λ m. OpensIndex m dataset part column (Ok (Some head))) (λ m. spec_at m dataset part column ≡ Ok (Some head.spec))
+  line_gives head old new w opens e = (
+    Some head.spec,
+    when_told (λ m. OpensIndex m dataset part column (Ok (Some head))) (λ m. spec_at m dataset part column ≡ Ok (Some head.spec))
         (λ m h. asked_of_width m w ∙ ap spec_said h) files opens,
-        e,
-      )
+    e,
+  )
 
   pub none_gives : (text : List ℕ) → is_some (width_of column.ty) ≡ true
       → IfSome files (λ m. OpensIndex m dataset part column (Ok None)) → IndexGives files dataset part column text text (Ok tt)
-  none_gives text w opens =
-      (
-        None,
-        when_told (λ m. OpensIndex m dataset part column (Ok None)) (λ m. spec_at m dataset part column ≡ Ok None)
+  none_gives text w opens = (
+    None,
+    when_told (λ m. OpensIndex m dataset part column (Ok None)) (λ m. spec_at m dataset part column ≡ Ok None)
         (λ m h. asked_of_width m w ∙ ap spec_said h) files opens,
-        sym (append-nil text),
-      )
+    sym (append-nil text),
+  )
 
   pub index_stops : (old new : List ℕ) (fault : PartFault) → is_some (width_of column.ty) ≡ true
       → IfSome files (λ m. OpensIndex m dataset part column (Err fault)) → IfDamaged fault (IsOfIndex dataset part column)
@@ -251,12 +242,11 @@ module _ (files : Option Files) (dataset : Dataset) where
 
   first_in_parts : (k : ℕ) (part : PartMeta) (mid : List ℕ) (stop : Unanswered) → slice_get dataset.parts k ≡ Some part → DatasetSoFar files dataset k mid
       → Refuses (IsFirstOfPart files dataset part) stop → Refuses (IsFirstDamaged files dataset) stop
-  first_in_parts k part mid (Refused status) there h r =
-      (
-        r.0,
-        r.1,
-        record { part = part; place = k; listed = there; before = all_sound (take k dataset.parts) h.parts h.are.are h.are.each; first = r.2 },
-      )
+  first_in_parts k part mid (Refused status) there h r = (
+    r.0,
+    r.1,
+    record { part = part; place = k; listed = there; before = all_sound (take k dataset.parts) h.parts h.are.are h.are.each; first = r.2 },
+  )
   first_in_parts k part mid StoreFault there h r = tt
   first_in_parts k part mid OutOfMemory there h r = tt
 

@@ -1,7 +1,7 @@
 -- What the steps of a command come to together.
-use Rattle.std.proofs.Common.{inl, inr, ◌≡◌, ◌*◌, ℕ, Bool, true, false, List, [], length, Option, Some, None, IfSome, IsSome, is_some, Result, Ok, Err, refl, sym, ap, subst, ◌∙◌}
-use Rattle.std.specs.List.{position, slice_get}
-use Rattle.std.specs.Prelude.{IfErr, IfOk}
+use Rattle.std.proofs.Common.{inl, inr, ◌≡◌, ℕ, Bool, true, List, Option, Some, None, IfSome, is_some, Result, Ok, Err, refl, sym, ap, subst, ◌∙◌}
+use Rattle.std.specs.List.{slice_get}
+use Rattle.std.specs.Prelude.{IfErr}
 use Rattle.std.specs.Str.{bytes_eq}
 use Rattle.std.proofs.lemmas.List.Quantifiers.{position-Some}
 use Rattle.std.proofs.lemmas.Option.{get_or_from_slice_get}
@@ -15,16 +15,14 @@ use Rattle.fb_types.specs.Types.{ends_of}
 use Rattle.dataset.specs.Found.{Absent, Broken, Found, IsFound, There}
 use Rattle.dataset.specs.Opened.{IsTextLook}
 use Rattle.dataset.specs.declared.content.Dataset.{Dataset}
-use Rattle.statuses.specs.declared.Status.{Status}
 use Rattle.statuses.specs.declared.stop.Unanswered.{Unanswered}
 use Rattle.statuses.specs.declared.stop.Unanswered.TheVariants.{Refused, StoreFault, OutOfMemory}
-use Rattle.statuses.specs.Opening.{Finds, Opened, dataset_or_refusal}
-use Rattle.statuses.specs.Outcome.{◌>>=◌}
+use Rattle.statuses.specs.Opening.{Finds, dataset_or_refusal}
 use Rattle.ibis.specs.declared.query.Below.{Below}
 use Rattle.ibis.specs.Listing.{ListGives}
 use Rattle.ibis.specs.ListSteps.{DatasetGives}
 use Rattle.ibis.specs.Looks.{IsIndexLook, IsListLook}
-use Rattle.ibis.specs.Query.{column_in, resolved, typed_or_refusal}
+use Rattle.ibis.specs.Query.{column_in, typed_or_refusal}
 use Rattle.ibis.specs.Steps.{IsAsked, StopsIn}
 
 -- ---- the column of a name

@@ -8,7 +8,6 @@ use Rattle.dataset.specs.Damage.{Damage}
 use Rattle.dataset.specs.declared.content.Dataset.{Dataset}
 use Rattle.statuses.specs.declared.stop.Unanswered.{Unanswered}
 use Rattle.statuses.specs.declared.stop.Unanswered.TheVariants.{Refused, StoreFault, OutOfMemory}
-use Rattle.statuses.specs.declared.Status.{Status}
 use Rattle.statuses.specs.Opening.{damaged_status}
 use Rattle.ibis.specs.Indexes.{AreIndexes, Indexed, IsDamaged, IsFirstDamaged, IsFirstOfPart, spec_at}
 use Rattle.ibis.specs.Listing.{ListsBy, line_by, part_lines}

@@ -8,3 +8,4 @@ pub mod PartFileLemmas
 pub mod AnsweredLemmas
 pub mod OpenLemmas
 pub mod AnswerLemmas
+pub mod IndexedLemmas

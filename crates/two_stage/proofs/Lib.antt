@@ -8,3 +8,5 @@ pub mod SecondStageLemmas
 pub mod PartFileLemmas
 pub mod NameLemmas
 pub mod AnsweredLemmas
+pub mod OpenLemmas
+pub mod AnswerLemmas

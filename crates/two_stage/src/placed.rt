@@ -1,11 +1,12 @@
 //! The files of a column of a part, opened.
 
-ghost use Rattle.std.specs.Prelude.{◌≡◌, ◌⊎◌, ◌≤◌, None, Some, IfErr, IfOk, IfSome, IsSome, length, slice_index};
+ghost use Rattle.std.specs.Prelude.{◌≡◌, ◌⊎◌, ◌≤◌, None, Some, IfErr, IfOk, IfSome, IsSome, MatchOption, length, slice_index};
 ghost use Rattle.answers.specs.Answers.{Answers};
 ghost use Rattle.fb_outside.specs.Causes.{HasCause};
 ghost use Rattle.fb_outside.specs.Files.{SameFiles, file_at};
 ghost use Rattle.fb_outside.specs.Reads.{AddsOnly, IsWholeLook};
 ghost use Rattle.fb_types.specs.Types.{width_of};
+ghost use Rattle.fb_types.specs.declared.types.ColType.TheVariants.{Category, Text};
 ghost use Rattle.wah_words.specs.Limits.{most_bits};
 ghost use Rattle.column_file.specs.Opening.{column_in, mask_in};
 ghost use Rattle.column_file.specs.Values.{width_in};
@@ -13,9 +14,12 @@ ghost use Rattle.index_file.specs.Opening.{EndsBy, index_in};
 ghost use Rattle.part_meta.specs.FileNames.{file_name};
 ghost use Rattle.part_meta.specs.declared.names.FileKind.TheVariants.{PartText};
 ghost use Rattle.stages.specs.Faults.{IsRefused};
-ghost use Rattle.text_column.specs.OpenedDictionary.{dictionary_of};
+ghost use Rattle.text_column.specs.OpenedDictionary.{dictionary_of as words_in};
 ghost use Rattle.text_column.specs.OpenedTexts.{text_in};
-ghost use Rattle.two_stage.specs.Faults.{IsOfStore, StopsAt};
+ghost use Rattle.part_meaning.specs.Columns.{PartColumn, present_rows};
+ghost use Rattle.world.specs.Cells.{dictionary_of};
+ghost use Rattle.two_stage.specs.ColumnFiles.{HasColumn, IsHeadOf};
+ghost use Rattle.two_stage.specs.Faults.{IsOfStore, IsOutside, StopsAt};
 ghost use Rattle.two_stage.specs.Opened.{column_told, index_told, opened_index, opened_mask, opened_text, texts_told, words_told};
 ghost use Rattle.two_stage.specs.Placed.{index_file, mask_file, starts_file, values_file, words_file};
 
@@ -78,6 +82,10 @@ impl<'a> PlacedColumn<'a> {
         ensures length { IfOk result (λ mask. length mask ≡ self.now.rows) }
         ensures exact { IfSome (S.files store.old) (λ m. Answers column_told result (mask_in self.now.rows (file_at m (mask_file self.now)))) }
         ensures reads { AddsOnly (IsWholeLook (S.files store.old) (mask_file self.now)) (S.reads store.old) (S.reads store.new) }
+
+        // Where the files are those of a column.
+        ensures found { IfOk result (λ mask. (column : PartColumn) → HasColumn (S.files store.old) self.now column → mask ≡ present_rows column) }
+        ensures whole { IfErr result (λ fault. (column : PartColumn) → HasColumn (S.files store.old) self.now column → IsOutside fault) }
     {
         let name = self.file(alloc, FileKind::Mask)?;
         match open_mask(alloc, store, &name, self.rows) {
@@ -100,6 +108,10 @@ impl<'a> PlacedColumn<'a> {
         ensures none { IfSome (S.files store.old) (λ m. file_at m (index_file self.now) ≡ None → S.reads store.new ≡ S.reads store.old) }
         ensures reads { AddsOnly (λ look. look.name ≡ index_file self.now) (S.reads store.old) (S.reads store.new) }
         ensures before { IfOk result (λ index. IfSome index (λ head. AddsOnly (EndsBy (index_file self.now) (slice_index head.offsets 0)) (S.reads store.old) (S.reads store.new))) }
+
+        // Where the files are those of a column.
+        ensures said { IfOk result (λ index. (column : PartColumn) → HasColumn (S.files store.old) self.now column → MatchOption index (column.spec ≡ None) (IsHeadOf self.now column)) }
+        ensures whole { IfErr result (λ fault. (column : PartColumn) → HasColumn (S.files store.old) self.now column → IsOutside fault) }
     {
         let name = self.file(alloc, FileKind::Index)?;
         match store.len(name.as_str()) {
@@ -124,6 +136,10 @@ impl<'a> PlacedColumn<'a> {
         ensures exact { IfSome (S.files store.old) (λ m. Answers index_told (opened_index result) (index_in self.now.rows (file_at m (index_file self.now)))) }
         ensures reads { AddsOnly (λ look. look.name ≡ index_file self.now) (S.reads store.old) (S.reads store.new) }
         ensures before { IfOk result (λ index. IfSome index (λ head. AddsOnly (EndsBy (index_file self.now) (slice_index head.offsets 0)) (S.reads store.old) (S.reads store.new))) }
+
+        // Where the files are those of a column.
+        ensures said { IfOk result (λ index. (column : PartColumn) → HasColumn (S.files store.old) self.now column → MatchOption index (column.spec ≡ None) (IsHeadOf self.now column)) }
+        ensures whole { IfErr result (λ fault. (column : PartColumn) → HasColumn (S.files store.old) self.now column → IsOutside fault) }
     {
         match open_index(alloc, store, name, self.rows) {
             Ok(index) => Ok(index),
@@ -137,11 +153,16 @@ impl<'a> PlacedColumn<'a> {
         alloc: Global,
         store: &mut S,
     ) -> Result<Dictionary, EvalFault>
+        requires { self.now.column.ty ≡ Category }
         ensures cause { HasCause (S.faults store.old) (S.faults store.new) (IsRefused result IsOfStore) }
         ensures files { SameFiles (S.files store.old) (S.files store.new) }
         ensures stop { IfErr result (StopsAt (S.files store.old) self.now) }
-        ensures exact { IfSome (S.files store.old) (λ m. Answers words_told result (dictionary_of (file_at m (words_file self.now)))) }
+        ensures exact { IfSome (S.files store.old) (λ m. Answers words_told result (words_in (file_at m (words_file self.now)))) }
         ensures reads { AddsOnly (IsWholeLook (S.files store.old) (words_file self.now)) (S.reads store.old) (S.reads store.new) }
+
+        // Where the files are those of a column.
+        ensures found { IfOk result (λ words. (column : PartColumn) → HasColumn (S.files store.old) self.now column → words ≡ dictionary_of column.cells) }
+        ensures whole { IfErr result (λ fault. (column : PartColumn) → HasColumn (S.files store.old) self.now column → IsOutside fault) }
     {
         let name = self.file(alloc, FileKind::Words)?;
         match open_dictionary(alloc, store, &name) {
@@ -164,6 +185,10 @@ impl<'a> PlacedColumn<'a> {
         ensures exact { IfSome (S.files store.old) (λ m. Answers column_told (opened_mask result)
             (column_in (width_in self.now.column.ty) self.now.rows (file_at m (values_file self.now)) (file_at m (mask_file self.now)))) }
         ensures reads { AddsOnly (IsWholeLook (S.files store.old) (mask_file self.now)) (S.reads store.old) (S.reads store.new) }
+
+        // Where the files are those of a column.
+        ensures found { IfOk result (λ opened. (column : PartColumn) → HasColumn (S.files store.old) self.now column → opened.mask ≡ present_rows column) }
+        ensures whole { IfErr result (λ fault. (column : PartColumn) → HasColumn (S.files store.old) self.now column → IsOutside fault) }
     {
         let name = self.file(alloc, FileKind::Values)?;
         let mask_name = self.file(alloc, FileKind::Mask)?;
@@ -175,6 +200,7 @@ impl<'a> PlacedColumn<'a> {
 
     /// The column of texts, which can be read.
     pub(crate) fn texts<S: Store>(&self, alloc: Global, store: &mut S) -> Result<TextRef, EvalFault>
+        requires { self.now.column.ty ≡ Text }
         ensures cause { HasCause (S.faults store.old) (S.faults store.new) (IsRefused result IsOfStore) }
         ensures files { SameFiles (S.files store.old) (S.files store.new) }
         ensures stop { IfErr result (StopsAt (S.files store.old) self.now) }
@@ -183,6 +209,10 @@ impl<'a> PlacedColumn<'a> {
             (text_in self.now.rows (file_at m (values_file self.now)) (file_at m (starts_file self.now)) (file_at m (mask_file self.now)))) }
         ensures reads { AddsOnly (λ look. IsWholeLook (S.files store.old) (starts_file self.now) look ⊎ IsWholeLook (S.files store.old) (mask_file self.now) look)
             (S.reads store.old) (S.reads store.new) }
+
+        // Where the files are those of a column.
+        ensures found { IfOk result (λ text. (column : PartColumn) → HasColumn (S.files store.old) self.now column → text.mask ≡ present_rows column) }
+        ensures whole { IfErr result (λ fault. (column : PartColumn) → HasColumn (S.files store.old) self.now column → IsOutside fault) }
     {
         let name = self.file(alloc, FileKind::Values)?;
         let starts_name = self.file(alloc, FileKind::Starts)?;

@@ -1,4 +1,9 @@
-use Rattle.std.proofs.Common.{subst}
+use Rattle.std.proofs.Common.{ap, sym, subst, ◌∙◌}
+use Rattle.fb_types.specs.declared.types.ColType.TheVariants.{Text}
+use Rattle.two_stage.specs.Placed.{Placed, mask_file, starts_file, values_file}
+use Rattle.two_stage.specs.Faults.{IsOutside}
+use Rattle.two_stage.specs.declared.fault.EvalFault.{EvalFault}
+use Rattle.two_stage.proofs.OpenLemmas.{at_view, texts_is, texts_whole}
 use Rattle.std.specs.Prelude.{◌≡◌, ◌⊎◌, ℕ, List, Option}
 use Rattle.fb_outside.specs.Files.{Files}
 use Rattle.fb_outside.specs.Reads.{AddsOnly, IsWholeLook, Look}
@@ -17,3 +22,19 @@ returns-in-Ok-clause-reads g c = named _ _ _ _ _ _ _ c.in_ok-starts_name.ensures
 
 pub returns-clause-reads : goal.returns-clause-reads
 returns-clause-reads g c = named _ _ _ _ _ _ _ c.in_ok-starts_name.ensures c.in_ok-mask_name.ensures c.open_text.ensures.reads
+
+pub returns-in-Ok-clause-found : goal.returns-in-Ok-clause-found
+returns-in-Ok-clause-found g c = λ column h.
+    texts_is _ _ column (at_view _ _ _ column c.self.view_is h) c.in_ok-name.name c.in_ok-starts_name.starts_name c.in_ok-mask_name.mask_name
+    c.in-Ok.text.starts.items c.in-Ok.text.mask
+    (subst (λ (p : Placed). p.column.ty ≡ Text) (sym c.self.view_is) c.requires)
+    (c.in_ok-name.ensures ∙ ap values_file (sym c.self.view_is)) (c.in_ok-starts_name.ensures ∙ ap starts_file (sym c.self.view_is))
+    (c.in_ok-mask_name.ensures ∙ ap mask_file (sym c.self.view_is)) c.in-Ok.ensures.exact
+
+pub returns-clause-whole : goal.returns-clause-whole
+returns-clause-whole g c = λ column h.
+    subst (λ (f : EvalFault). IsOutside f) (sym c.of_texts.ensures)
+    (texts_whole _ _ column (at_view _ _ _ column c.self.view_is h) c.in_ok-name.name c.in_ok-starts_name.starts_name c.in_ok-mask_name.mask_name c.in-Err.fault
+    (subst (λ (p : Placed). p.column.ty ≡ Text) (sym c.self.view_is) c.requires)
+    (c.in_ok-name.ensures ∙ ap values_file (sym c.self.view_is)) (c.in_ok-starts_name.ensures ∙ ap starts_file (sym c.self.view_is))
+    (c.in_ok-mask_name.ensures ∙ ap mask_file (sym c.self.view_is)) c.in-Err.ensures.exact)

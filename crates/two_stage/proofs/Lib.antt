@@ -8,5 +8,6 @@ pub mod SecondStageLemmas
 pub mod PartFileLemmas
 pub mod NameLemmas
 pub mod AnsweredLemmas
+pub mod MeantLemmas
 pub mod OpenLemmas
 pub mod AnswerLemmas

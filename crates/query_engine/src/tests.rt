@@ -7,7 +7,6 @@ use crate::sample_files::{File, NUMBERS, WORDS};
 use crate::{AskFault, Chosen, bounds, choose};
 use dataset::{DamageKind, Dataset, open_dataset};
 use fb_outside::{FailAt, FileName, MemStore, Store};
-use stages::Bounds;
 use std::marker::Brand;
 use std::process::Abort;
 use std::sync::ledger::Ledger;
@@ -84,64 +83,62 @@ fn planned<R: Abort + AllocGlobal>(rt: &R, dataset: &Dataset, text: &str) -> Pla
     }
 }
 
-/// What a clause gives over a dataset.
-fn asked<R: Abort + AllocGlobal, L: Ledger>(
+/// What a plan gives over a dataset, and how many rows are chosen in its last part.
+fn numbers<R: Abort + AllocGlobal, L: Ledger>(
     rt: &R,
     blank: Blank,
     store: &mut MemStore,
-    dir: &str,
-    text: &str,
-) -> Result<(Bounds, Chosen), AskFault>
+    dataset: &Dataset,
+    plan: &Plan,
+) -> Result<(Numbers, u64), AskFault>
     requires ledger { blank.name ≡ L.name }
     requires parts { blank.parts ≡ L.parts }
     requires some { 0 < blank.parts }
+    requires valid { IsDataset dataset.now }
+    requires fits { FitsSchema dataset.now.schema plan.now }
 {
-    let dataset = dataset_at(rt, store, dir);
-    let plan = planned(rt, &dataset, text);
     let mut steps = Steps::<L>::new(blank);
-    let bounds = bounds(rt.alloc(), store, &dataset, &plan, &mut steps)?;
-    let chosen = choose(rt.alloc(), store, &dataset, &plan, &mut steps)?;
-    Ok((bounds, chosen))
+    let found = bounds(rt.alloc(), store, dataset, plan, &mut steps)?;
+    let chosen = choose(rt.alloc(), store, dataset, plan, &mut steps)?;
+    let numbers = (found.definite, found.possible, chosen.hits, chosen.checked);
+    Ok((numbers, last_rows(rt, &chosen, &mut steps)))
 }
 
-/// How many rows are chosen in the part at a place.
-fn chosen_in<R: Abort, L: Ledger>(rt: &R, blank: Blank, chosen: &Chosen, place: usize) -> u64
-    requires ledger { blank.name ≡ L.name }
-    requires parts { blank.parts ≡ L.parts }
-    requires some { 0 < blank.parts }
-{
-    let mut steps = Steps::<L>::new(blank);
-    match chosen.parts.get(place) {
-        Some(rows) => count_ones(rows, &mut steps),
-        None => rt.panic("no such part"),
+/// The same of a clause over the dataset at a path.
+fn asked<R: Abort + AllocGlobal + Count>(
+    rt: &R,
+    store: &mut MemStore,
+    dir: &str,
+    text: &str,
+) -> Result<(Numbers, u64), AskFault> {
+    let dataset = dataset_at(rt, store, dir);
+    let plan = planned(rt, &dataset, text);
+    numbers::<R, Brand>(rt, rt.blank(), store, &dataset, &plan)
+}
+
+/// How many rows are chosen in the last part.
+fn last_rows<R: Abort, L: Ledger>(rt: &R, chosen: &Chosen, steps: &mut Steps<L>) -> u64 {
+    match chosen.parts.as_slice().last() {
+        Some(rows) => count_ones(rows, steps),
+        None => rt.panic("no part"),
     }
 }
 
 /// The parts stand in the order of the catalog, and their numbers are added up.
 #[test]
 fn parts_are_answered_in_order(rt: HostRuntime) -> Result<(), Fail> {
-    let cases: [(&str, Numbers, u64, u64); 5] = [
-        ("3 < a < 9", (4, 9, 6, 5), 5, 1),
-        ("not (a < 5)", (4, 10, 8, 6), 6, 2),
-        ("a < 4", (3, 5, 4, 2), 3, 1),
-        ("exists(a)", (12, 12, 12, 0), 10, 2),
-        ("a > 100", (0, 2, 0, 2), 0, 0),
-    ];
-    for (text, want, first, second) in cases {
+    for (text, want) in [
+        ("3 < a < 9", ((4, 9, 6, 5), 1)),
+        ("not (a < 5)", ((4, 10, 8, 6), 2)),
+        ("a < 4", ((3, 5, 4, 2), 1)),
+        ("exists(a)", ((12, 12, 12, 0), 2)),
+        ("a > 100", ((0, 2, 0, 2), 0)),
+    ] {
         let mut store = store(&rt, NUMBERS, "", &[], &[]);
-        let Ok((bounds, chosen)) = asked::<_, Brand>(&rt, rt.blank(), &mut store, "D", text) else {
-            rt.panic("no answer")
-        };
-        let have = (
-            bounds.definite,
-            bounds.possible,
-            chosen.hits,
-            chosen.checked,
-        );
-        assert!(rt; have == want);
-        assert!(rt; chosen.parts.len() == 2);
-        assert!(rt; chosen_in::<_, Brand>(&rt, rt.blank(), &chosen, 0) == first);
-        assert!(rt; chosen_in::<_, Brand>(&rt, rt.blank(), &chosen, 1) == second);
+        match asked(&rt, &mut store, "D", text) {
+            Ok(have) => assert!(rt; have == want),
+            Err(_) => rt.panic("no answer"),
+        }
     }
     Ok(())
 }
@@ -160,7 +157,7 @@ fn is_damaged<R: Abort + AllocGlobal + Count>(
     if let Some(bytes) = bytes {
         assert!(rt; store.put(named(rt, file).as_str(), bytes).is_ok());
     }
-    match asked::<R, Brand>(rt, rt.blank(), &mut store, dir, text) {
+    match asked(rt, &mut store, dir, text) {
         Err(
             AskFault::Damaged {
                 file: found,
@@ -254,22 +251,13 @@ fn damaged_words_and_texts_are_named(rt: HostRuntime) -> Result<(), Fail> {
     Ok(())
 }
 
-/// A file of another column, or without need, isn't looked at.
+/// A file of another column isn't looked at.
 #[test]
 fn damages_elsewhere_are_not_told(rt: HostRuntime) -> Result<(), Fail> {
     let more: [File; 2] = [("W/p0000/c.dic", b""), ("W/p0000/c.msk", b"")];
     let mut store = store(&rt, WORDS, "", &more, &[]);
-    match asked::<_, Brand>(&rt, rt.blank(), &mut store, "W", "t like 'ap%'") {
-        Ok((bounds, chosen)) => {
-            assert!(rt;
-                (
-                    bounds.definite,
-                    bounds.possible,
-                    chosen.hits,
-                    chosen.checked
-                ) == (0, 4, 2, 4)
-            )
-        }
+    match asked(&rt, &mut store, "W", "t like 'ap%'") {
+        Ok(have) => assert!(rt; have == ((0, 4, 2, 4), 2)),
         Err(_) => rt.panic("no answer"),
     }
     Ok(())
@@ -278,22 +266,23 @@ fn damages_elsewhere_are_not_told(rt: HostRuntime) -> Result<(), Fail> {
 /// Each call on the store that fails is told, and none is taken for another fault.
 #[test]
 fn failing_calls_are_told(rt: HostRuntime) -> Result<(), Fail> {
-    let mut answers = 0;
+    let mut is_answered = false;
+    let mut is_refused = false;
     for call in 6..60 {
         let fail = FailAt {
             call: NUMBERS.len() as u64 + call,
             keep_new: false,
         };
         let mut store = store(&rt, NUMBERS, "", &[], &[fail]);
-        match asked::<_, Brand>(&rt, rt.blank(), &mut store, "D", "3 < a < 9") {
-            Ok((_, chosen)) => {
-                answers += 1;
-                assert!(rt; chosen.hits == 6);
+        match asked(&rt, &mut store, "D", "3 < a < 9") {
+            Ok(have) => {
+                assert!(rt; have == ((4, 9, 6, 5), 1));
+                is_answered = true;
             }
-            Err(AskFault::Store) => (),
+            Err(AskFault::Store) => is_refused = true,
             Err(_) => rt.panic("another fault"),
         }
     }
-    assert!(rt; answers > 0 && answers < 54);
+    assert!(rt; is_answered && is_refused);
     Ok(())
 }

@@ -3,6 +3,7 @@
 use crate::tests::{LOAD, expect_load, expect_words, keep};
 use fb_outside::MemStore;
 use std::test::Fail;
+use steps::Count;
 
 const TEN: &str = "1\n2\n3\n4\n5\n6\n7\n8\n9\n10\n";
 
@@ -67,7 +68,7 @@ fn the_index_that_is_built_is_listed(rt: HostRuntime) -> Result<(), Fail> {
     let loaded = "loaded 10 rows\n";
     expect_load(&rt, rt.blank(), &mut store, LOAD, TEN, 0, loaded)?;
     for (words, code, printed) in BUILDS {
-        expect_words(&rt, rt.blank(), &mut store, words, *code, printed)?;
+        expect_words(&rt, rt.blank(), &mut store, words, *code, *printed)?;
     }
     keep(&rt, &mut store, "D/p0000/a.idx", b"FBIX\x02\0\0\0")?;
     let damaged = "error 8 damaged D/p0000/a.idx Index\n";

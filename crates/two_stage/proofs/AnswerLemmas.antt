@@ -1,7 +1,7 @@
 -- The answers of the first stage, row by row.
 use Rattle.std.proofs.Common.{◌≡◌, ℕ, zero, suc, ◌+◌, ◌*◌, ◌<◌, ◌≤◌, ℤ, pos, ◌≤ℤ◌, Bool, true, false, cond, not, List, [], ◌∷◌, All, get_or, length, map, Option, Some, None, IsSome, refl, sym, ap, subst, ◌∙◌, arith}
 use Rattle.std.specs.Prelude.{if◌then◌else◌}
-use Rattle.std.specs.List.{find, list_any, range_with_len}
+use Rattle.std.specs.List.{find, flat_map, list_any, range_with_len}
 use Rattle.std.proofs.lemmas.Int.{ints}
 use Rattle.std.proofs.lemmas.List.{ext_get_or, length-map}
 use Rattle.std.proofs.lemmas.List.Elements.{All-head, All-tail}
@@ -12,7 +12,7 @@ use Rattle.fb_types.specs.declared.cells.Cell.{Cell}
 use Rattle.fb_types.specs.declared.cells.Cell.TheVariants.{Null, Whole, Word}
 use Rattle.fb_types.specs.declared.types.ColType.{ColType}
 use Rattle.fb_types.specs.declared.types.ColType.TheVariants.{Category, Text}
-use Rattle.fb_types.specs.Types.{width_of}
+use Rattle.fb_types.specs.Types.{ends_of, width_of}
 use Rattle.index_spec.specs.declared.spec.Spec.{Spec}
 use Rattle.binning.specs.Against.{against}
 use Rattle.binning.specs.Spans.{int_le}
@@ -24,18 +24,26 @@ use Rattle.three_valued.specs.Rows.{each_row}
 use Rattle.three_valued.specs.Tables.{decided, undecided}
 use Rattle.where_grammar.specs.Holds.{is_there}
 use Rattle.where_grammar.specs.declared.clause.Atom.{Atom}
+use Rattle.where_plan.specs.SpansOf.{AreSpansOf, code_meets, code_range, span}
 use Rattle.where_plan.specs.declared.plan.PlanAtom.TheVariants as atom
-use Rattle.world.specs.Cells.{is_present}
+use Rattle.world.specs.Cells.{dictionary_of, is_present}
+use Rattle.part_meta.specs.FileNames.{index_name}
+use Rattle.index_file.specs.Places.{bitmap_look}
+use Rattle.index_spec.specs.Members.{needed}
+use Rattle.bin_answers.specs.BinRuns.{runs_of}
+use Rattle.binning.proofs.TestLemmas.{int_le-true}
 use Rattle.bin_answers.specs.Bins.{bin_at, said_by}
-use Rattle.part_meaning.specs.Columns.{PartColumn, bins_in, bins_under, cell_of_row, ends_in, one_bin, present_rows}
-use Rattle.part_meaning.specs.Known.{bin_says, known}
+use Rattle.part_meaning.specs.Columns.{PartColumn, bins_in, bins_under, cell_of_row, ends_in, ends_or, one_bin, present_rows}
+use Rattle.part_meaning.specs.Bitmaps.{bins_say, bitmap_looks, index_places, looks_under, needed_of, needed_under, work_of}
+use Rattle.part_meaning.specs.Known.{bin_says, known, of_codes}
 use Rattle.part_meaning.proofs.BinLemmas.{one_none}
-use Rattle.part_meaning.proofs.ColumnLemmas.{IsColumn}
+use Rattle.part_meaning.proofs.ColumnLemmas.{IsColumn, row_has}
+use Rattle.part_meaning.proofs.RangeLemmas.{against_words}
 use Rattle.part_meaning.proofs.KnownLemmas.{text_unknown}
 use Rattle.two_stage.specs.ColumnFiles.{HasColumn}
 use Rattle.two_stage.specs.Placed.{Placed}
 
-mapped_rows : {A X : Type 0} (f : A → X) (xs : List A) (d : A) (rows : ℕ) (said : ℕ → X) → length xs ≡ rows
+pub mapped_rows : {A X : Type 0} (f : A → X) (xs : List A) (d : A) (rows : ℕ) (said : ℕ → X) → length xs ≡ rows
     → ((row : ℕ) → row < rows → f (get_or xs row d) ≡ said row) → map f xs ≡ each_row rows said
 mapped_rows f xs d rows said long each =
     ext_get_or (f d) (map f xs) (map said (range_with_len 0 rows)) (length-map xs f ∙ long ∙ sym (length-map-range_with_len said 0 rows))
@@ -117,3 +125,105 @@ whole_rows files p column mask answers answer ends spans col has none is its by_
         ∙ by_ends ∙ ap (λ b. cond b (against ends.least ends.greatest spans) No) (order row e)
         ∙ ap (λ (s : Span). against s.least s.greatest spans) its
         ∙ sym (ap (λ b. cond b (against (ends_in column.ty column.cells).least (ends_in column.ty column.cells).greatest spans) No) e)
+
+-- ---- between which ends the values lie
+
+pub number_ends : (files : Option Files) (p : Placed) (column : PartColumn) (least greatest : ℤ) → HasColumn files p column
+    → ends_of p.column.ty ≡ Some (least, greatest) → span least greatest ≡ ends_in column.ty column.cells
+unfolding ends_in
+number_ends files p column least greatest has e =
+    ap (λ o. ends_or o (code_range (dictionary_of column.cells))) (sym (ap ends_of has.typed ∙ e))
+
+pub word_ends : (files : Option Files) (p : Placed) (column : PartColumn) (words : List (List ℕ)) → HasColumn files p column → p.column.ty ≡ Category
+    → words ≡ dictionary_of column.cells → span (pos 1) (pos (length words)) ≡ ends_in column.ty column.cells
+unfolding ends_in
+word_ends files p column words has ty e =
+    ap code_range e ∙ ap (λ o. ends_or o (code_range (dictionary_of column.cells))) (sym (ap ends_of (has.typed ∙ ty)))
+
+-- where a row has a value the ends are in order
+pub ends_order : (files : Option Files) (p : Placed) (column : PartColumn) (row : ℕ) → HasColumn files p column → column.spec ≡ None
+    → is_present (cell_of_row column row) ≡ true → int_le (ends_in column.ty column.cells).least (ends_in column.ty column.cells).greatest ≡ true
+unfolding bins_in one_bin
+ends_order files p column row has none there =
+    let r = row_has column row (as_column files p column has) there in
+    let ends = ends_in column.ty column.cells in
+    let rows = present_rows column in
+    let bin : Bin = record { least = ends.least; greatest = ends.greatest; rows = rows } in
+    let here : get_or rows row false ≡ true = present_at column row ∙ there in
+    let one : bin_at row (one_bin ends rows) ≡ Some bin =
+    ap (λ b. bin_at row (cond b (bin ∷ []) [])) (row_among rows row here) ∙ ap (λ b. cond b (Some bin) None) here in
+    let same : Some r.bin ≡ Some bin = sym r.at ∙ ap (λ o. bin_at row (bins_under o column.ty column.cells)) none ∙ one in
+    let is : r.bin ≡ bin = cc in
+    let low = subst (λ (b : Bin). b.least ≤ℤ _) is r.low in
+    let high = subst (λ (b : Bin). _ ≤ℤ b.greatest) is r.high in
+    int_le-true ends.least ends.greatest (omega (arith, ints, low, high))
+
+-- ---- the words of codes
+
+module _ (files : Option Files) (p : Placed) (column : PartColumn) (has : HasColumn files p column) (ty : p.column.ty ≡ Category)
+    (condition : Atom) (words : List (List ℕ)) (same : words ≡ dictionary_of column.cells) (spans : List Span)
+    (are : AreSpansOf (code_range words) (code_meets condition words) spans) (col : ℕ) where
+  abbrev IsCodeBin : Bin → Type 0
+  IsCodeBin bin = (pos 1 ≤ℤ bin.least) × (bin.least ≤ℤ bin.greatest) × (bin.greatest ≤ℤ pos (length (dictionary_of column.cells)))
+
+  bin_same : (bin : Bin) → IsCodeBin bin → bin_says column (atom.Word col condition) bin ≡ bin_says column (atom.Whole col spans) bin
+  unfolding bin_says
+  bin_same bin h =
+      let its : AreSpansOf (code_range (dictionary_of column.cells)) (code_meets condition (dictionary_of column.cells)) spans
+      = subst (λ (l : List (List ℕ)). AreSpansOf (code_range l) (code_meets condition l) spans) same are in
+      ap (λ o. of_codes o (code_meets condition (dictionary_of column.cells)) bin) (ap width_of (has.typed ∙ ty))
+      ∙ sym (against_words condition (dictionary_of column.cells) spans bin.least bin.greatest its h.0 h.1.0 h.1.1)
+
+  each_same : (bins : List Bin) → All IsCodeBin bins → map (bin_says column (atom.Word col condition)) bins ≡ map (bin_says column (atom.Whole col spans)) bins
+  each_same [] h = refl
+  each_same (bin ∷ bins) h =
+      ap (λ a. a ∷ map (bin_says column (atom.Word col condition)) bins) (bin_same bin (All-head IsCodeBin bin bins h))
+      ∙ ap (λ l. bin_says column (atom.Whole col spans) bin ∷ l) (each_same bins (All-tail IsCodeBin bin bins h))
+
+  say_same : bins_say column (atom.Word col condition) ≡ bins_say column (atom.Whole col spans)
+  unfolding bins_say
+  say_same = each_same (bins_in column) (has.codes ty)
+
+  found_same : (f : Bin → Bool) (bins : List Bin) → All IsCodeBin bins
+      → said_by (bin_says column (atom.Word col condition)) (find f bins) ≡ said_by (bin_says column (atom.Whole col spans)) (find f bins)
+  found_same f [] h = refl
+  found_same f (bin ∷ bins) h = by (f bin) (found_same f bins (All-tail IsCodeBin bin bins h))
+    where
+      by : (b : Bool) → said_by (bin_says column (atom.Word col condition)) (find f bins) ≡ said_by (bin_says column (atom.Whole col spans)) (find f bins)
+          → said_by (bin_says column (atom.Word col condition)) (cond b (Some bin) (find f bins)) ≡ said_by (bin_says column (atom.Whole col spans)) (cond b (Some bin) (find f bins))
+      by true more = bin_same bin (All-head IsCodeBin bin bins h)
+      by false more = more
+
+  pub words_known : (row : ℕ) → known column (atom.Whole col spans) row ≡ known column (atom.Word col condition) row
+  unfolding known
+  words_known row = sym (found_same (λ bin. get_or bin.rows row false) (bins_in column) (has.codes ty))
+
+  pub words_rows : (answers : List Three) → answers ≡ each_row p.rows (known column (atom.Whole col spans)) → answers ≡ each_row p.rows (known column (atom.Word col condition))
+  words_rows answers said =
+      said ∙ ext_get_or No _ _ (length-map-range_with_len (known column (atom.Whole col spans)) 0 p.rows ∙ sym (length-map-range_with_len (known column (atom.Word col condition)) 0 p.rows))
+      (λ row below.
+      let within : row < p.rows = omega (arith, below, length-map-range_with_len (known column (atom.Whole col spans)) 0 p.rows) in
+      get_or-map-range_with_len (known column (atom.Whole col spans)) 0 p.rows row row No within (omega arith) ∙ words_known row
+      ∙ sym (get_or-map-range_with_len (known column (atom.Word col condition)) 0 p.rows row row No within (omega arith)))
+
+  needed_same : needed_of column (atom.Whole col spans) ≡ needed_of column (atom.Word col condition)
+  unfolding needed_of
+  needed_same = by column.spec
+    where
+      by : (o : Option Spec) → needed_under o column (atom.Whole col spans) ≡ needed_under o column (atom.Word col condition)
+      by None = refl
+      by (Some spec) = ap (λ said. flat_map (λ r. needed spec.encoding (length (bins_in column)) r.first r.past) (runs_of said)) (sym say_same)
+
+  pub words_looks : bitmap_looks p.dir p.number column (atom.Whole col spans) ≡ bitmap_looks p.dir p.number column (atom.Word col condition)
+  unfolding bitmap_looks
+  words_looks = by column.spec
+    where
+      by : (o : Option Spec) → looks_under o (index_name p.dir p.number column.name) column (atom.Whole col spans) ≡ looks_under o (index_name p.dir p.number column.name) column (atom.Word col condition)
+      by None = refl
+      by (Some spec) = ap (map (bitmap_look (index_name p.dir p.number column.name) (index_places spec column))) needed_same
+
+  pub words_work : work_of column (atom.Whole col spans) ≡ work_of column (atom.Word col condition)
+  unfolding work_of
+  words_work =
+      ap (λ (l : List ℕ). 4 * (length l + length (runs_of (bins_say column (atom.Whole col spans))))) needed_same
+      ∙ ap (λ said. 4 * (length (needed_of column (atom.Word col condition)) + length (runs_of said))) (sym say_same)

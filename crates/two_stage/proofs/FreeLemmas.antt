@@ -3,7 +3,7 @@ use Rattle.std.proofs.Common.{◌≡◌, ◌⊎◌, inl, inr, ℕ, ◌+◌, ◌<
 use Rattle.std.specs.Prelude.{slice_index, Result}
 use Rattle.std.specs.List.{AllByRecursion, filter, list_any}
 use Rattle.std.specs.Str.{bytes_eq}
-use Rattle.std.proofs.lemmas.Bool.{ltb-false}
+use Rattle.std.proofs.lemmas.Bool.{ltb-true}
 use Rattle.std.proofs.lemmas.List.{append_cancel_left}
 use Rattle.std.proofs.lemmas.List.Elements.{All-head, All-tail}
 use Rattle.std.proofs.lemmas.Slice.Eq.{bytes_eq-Decides}
@@ -18,6 +18,8 @@ use Rattle.part_meta.specs.declared.names.FileKind.{FileKind}
 use Rattle.part_meta.specs.declared.names.FileKind.TheVariants as file
 use Rattle.stages.specs.Looks.{AddsLooks, Looks}
 use Rattle.bin_answers.specs.Fetched.{IsFrontOf}
+use Rattle.index_spec.specs.declared.spec.Spec.{Spec}
+use Rattle.part_meaning.specs.Bitmaps.{index_places}
 use Rattle.part_meaning.specs.Columns.{PartColumn}
 use Rattle.part_meaning.specs.Files.{is_bitmap_of, is_free_of, is_past_head, kinds_by_spec, kinds_by_type}
 
@@ -102,9 +104,6 @@ module _ (allowed is_bitmap : Look → Bool) (bitmaps : List Look) (done : Type 
 
 -- ---- of the files of a column
 
-leaf_of : FileKind → List ℕ → List ℕ
-leaf_of kind name = leaf kind name
-
 -- what stands behind the name differs
 apart_by : (folder a b : List ℕ) → (a ≡ b → ⊥) → folder ++ 47 ∷ a ≡ folder ++ 47 ∷ b → ⊥
 apart_by folder a b f e =
@@ -151,10 +150,22 @@ and_no : (a b : Bool) → a ≡ false → a && b ≡ false
 and_no true b e = absurd cc
 and_no false b e = refl
 
-module _ (dir : List ℕ) (number : ℕ) (column : PartColumn) (look : Look) where
-  is_kind : FileKind → Bool
-  is_kind kind = bytes_eq look.name (file_name dir number (Some column.name) kind)
+not_less : (a b : ℕ) → b ≤ a → nat_lt a b ≡ false
+not_less a b h = by (nat_lt a b) refl
+  where
+    by : (v : Bool) → nat_lt a b ≡ v → nat_lt a b ≡ false
+    by false e = e
+    by true e = let less : a < b = ltb-true a b e in absurd (omega (arith, less, h))
 
+and_right_no : (a b : Bool) → b ≡ false → a && b ≡ false
+and_right_no true b e = e
+and_right_no false b e = refl
+
+last_any : (f : FileKind → Bool) (kinds : List FileKind) (kind : FileKind) → f kind ≡ true → list_any f (kinds ++ kind ∷ []) ≡ true
+last_any f [] kind e = or_left (f kind) false e
+last_any f (k ∷ kinds) kind e = or_right (f k) (list_any f (kinds ++ kind ∷ [])) (last_any f kinds kind e)
+
+module _ (dir : List ℕ) (number : ℕ) (column : PartColumn) (look : Look) where
   no_bitmap : (name : List ℕ) → look.name ≡ name → (name ≡ index_name dir number column.name → ⊥) → is_bitmap_of dir number column look ≡ false
   unfolding is_bitmap_of
   no_bitmap name e f =
@@ -192,3 +203,16 @@ module _ (dir : List ℕ) (number : ℕ) (column : PartColumn) (look : Look) whe
       → IsFree (is_free_of dir number column) (is_bitmap_of dir number column) look
   unfolding is_free_of
   starts_free ty e = (free_starts column.ty (kinds_by_spec column.spec) ty e, no_bitmap _ e (starts_apart dir number column.name))
+
+  pub index_free : (spec : Spec) → column.spec ≡ Some spec → look.name ≡ index_name dir number column.name → is_free_of dir number column look ≡ true
+  unfolding is_free_of
+  index_free spec is e =
+      ap (λ o. list_any (λ kind. bytes_eq look.name (file_name dir number (Some column.name) kind)) (file.Mask ∷ kinds_by_type column.ty ++ kinds_by_spec o)) is
+      ∙ or_right (bytes_eq look.name (file_name dir number (Some column.name) file.Mask)) _ (last_any (λ kind. bytes_eq look.name (file_name dir number (Some column.name) kind))
+      (kinds_by_type column.ty) file.Index (same_bytes _ _ e))
+
+  pub head_no_bitmap : (spec : Spec) → column.spec ≡ Some spec → look.offset + look.room ≤ slice_index (index_places spec column) 0 → is_bitmap_of dir number column look ≡ false
+  unfolding is_bitmap_of
+  head_no_bitmap spec is h =
+      ap (λ o. bytes_eq look.name (index_name dir number column.name) && is_past_head o column (look.offset + look.room)) is
+      ∙ and_right_no (bytes_eq look.name (index_name dir number column.name)) _ (not_less (slice_index (index_places spec column) 0) (look.offset + look.room) h)

@@ -9,3 +9,6 @@ pub mod AnsweredLemmas
 pub mod OpenLemmas
 pub mod AnswerLemmas
 pub mod IndexedLemmas
+pub mod SettleLemmas
+pub mod HeadLemmas
+pub mod PartLemmas

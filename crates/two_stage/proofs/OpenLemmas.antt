@@ -85,7 +85,7 @@ same_value given a b e f = cc
 
 -- ---- the files of a column
 
-told_is : (P : Files → Type 0) (files : Option Files) (m : Files) → files ≡ Some m → IfSome files P → P m
+pub told_is : (P : Files → Type 0) (files : Option Files) (m : Files) → files ≡ Some m → IfSome files P → P m
 told_is P files m e h = subst (λ (o : Option Files). IfSome o P) e h
 
 module _ (files : Option Files) (p : Placed) (column : PartColumn) (has : HasColumn files p column) where

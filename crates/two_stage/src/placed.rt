@@ -10,7 +10,7 @@ ghost use Rattle.fb_types.specs.declared.types.ColType.TheVariants.{Category, Te
 ghost use Rattle.wah_words.specs.Limits.{most_bits};
 ghost use Rattle.column_file.specs.Opening.{column_in, mask_in};
 ghost use Rattle.column_file.specs.Values.{width_in};
-ghost use Rattle.index_file.specs.Opening.{EndsBy, index_in};
+ghost use Rattle.index_file.specs.Opening.{EndsBy, IsHeadLook, index_in};
 ghost use Rattle.part_meta.specs.FileNames.{file_name};
 ghost use Rattle.part_meta.specs.declared.names.FileKind.TheVariants.{PartText};
 ghost use Rattle.stages.specs.Faults.{IsRefused};
@@ -106,7 +106,7 @@ impl<'a> PlacedColumn<'a> {
         ensures named { IfOk result (λ index. IfSome index (λ head. (head.name ≡ index_file self.now) × (head.rows ≡ self.now.rows))) }
         ensures exact { IfSome (S.files store.old) (λ m. Answers index_told (opened_index result) (index_in self.now.rows (file_at m (index_file self.now)))) }
         ensures none { IfSome (S.files store.old) (λ m. file_at m (index_file self.now) ≡ None → S.reads store.new ≡ S.reads store.old) }
-        ensures reads { AddsOnly (λ look. look.name ≡ index_file self.now) (S.reads store.old) (S.reads store.new) }
+        ensures reads { AddsOnly (IsHeadLook (S.files store.old) (index_file self.now)) (S.reads store.old) (S.reads store.new) }
         ensures before { IfOk result (λ index. IfSome index (λ head. AddsOnly (EndsBy (index_file self.now) (slice_index head.offsets 0)) (S.reads store.old) (S.reads store.new))) }
 
         // Where the files are those of a column.
@@ -134,7 +134,7 @@ impl<'a> PlacedColumn<'a> {
         ensures stop { IfErr result (StopsAt (S.files store.old) self.now) }
         ensures named { IfOk result (λ index. IfSome index (λ head. (head.name ≡ index_file self.now) × (head.rows ≡ self.now.rows))) }
         ensures exact { IfSome (S.files store.old) (λ m. Answers index_told (opened_index result) (index_in self.now.rows (file_at m (index_file self.now)))) }
-        ensures reads { AddsOnly (λ look. look.name ≡ index_file self.now) (S.reads store.old) (S.reads store.new) }
+        ensures reads { AddsOnly (IsHeadLook (S.files store.old) (index_file self.now)) (S.reads store.old) (S.reads store.new) }
         ensures before { IfOk result (λ index. IfSome index (λ head. AddsOnly (EndsBy (index_file self.now) (slice_index head.offsets 0)) (S.reads store.old) (S.reads store.new))) }
 
         // Where the files are those of a column.
@@ -182,6 +182,7 @@ impl<'a> PlacedColumn<'a> {
         ensures files { SameFiles (S.files store.old) (S.files store.new) }
         ensures stop { IfErr result (StopsAt (S.files store.old) self.now) }
         ensures opened { IfOk result (λ column. (column.name ≡ values_file self.now) × (column.ty ≡ self.now.column.ty) × (column.rows ≡ self.now.rows)) }
+        ensures length { IfOk result (λ column. length column.mask ≡ self.now.rows) }
         ensures exact { IfSome (S.files store.old) (λ m. Answers column_told (opened_mask result)
             (column_in (width_in self.now.column.ty) self.now.rows (file_at m (values_file self.now)) (file_at m (mask_file self.now)))) }
         ensures reads { AddsOnly (IsWholeLook (S.files store.old) (mask_file self.now)) (S.reads store.old) (S.reads store.new) }
@@ -205,6 +206,7 @@ impl<'a> PlacedColumn<'a> {
         ensures files { SameFiles (S.files store.old) (S.files store.new) }
         ensures stop { IfErr result (StopsAt (S.files store.old) self.now) }
         ensures opened { IfOk result (λ text. (text.name ≡ values_file self.now) × (text.rows ≡ self.now.rows)) }
+        ensures length { IfOk result (λ text. length text.mask ≡ self.now.rows) }
         ensures exact { IfSome (S.files store.old) (λ m. Answers texts_told (opened_text result)
             (text_in self.now.rows (file_at m (values_file self.now)) (file_at m (starts_file self.now)) (file_at m (mask_file self.now)))) }
         ensures reads { AddsOnly (λ look. IsWholeLook (S.files store.old) (starts_file self.now) look ⊎ IsWholeLook (S.files store.old) (mask_file self.now) look)

@@ -24,9 +24,11 @@ use Rattle.part_meaning.specs.Known.{known}
 use Rattle.part_meaning.specs.Meaning.{IsPartAt, Means, meaning_of}
 use Rattle.part_meaning.specs.Parts.{is_bitmap_in}
 use Rattle.two_stage.specs.ColumnFiles.{HasColumn}
-use Rattle.two_stage.specs.Faults.{IsOutside}
+use Rattle.two_stage.specs.Faults.{IsOutside, Stops, StopsAt}
+use Rattle.two_stage.specs.Kept.{IsKept, IsKeptOf}
 use Rattle.two_stage.specs.Placed.{Placed, placed_at}
 use Rattle.two_stage.specs.declared.fault.EvalFault.{EvalFault}
+use Rattle.two_stage.specs.declared.open_column.OpenColumn.{OpenColumn}
 use Rattle.two_stage.proofs.AnsweredLemmas.{within_schema}
 use Rattle.two_stage.proofs.FileLemmas.{has_column}
 use Rattle.two_stage.proofs.NameLemmas.{free_bitmaps}
@@ -146,3 +148,17 @@ module _ (files : Option Files) (dir : List ℕ) (meta : PartMeta) (valid : IsPa
       meant_steps files dir meta valid condition (within_schema meta.schema condition fits) before now
       (subst (λ (q : Placed). (column : PartColumn) → HasColumn files q column → now ≤ before + 2 * groups_and_rest q.rows * work_of column condition) there
       (subst (λ (c : PlanAtom). (column : PartColumn) → HasColumn files p column → now ≤ before + 2 * groups_and_rest p.rows * work_of column c) same says))
+
+  -- its fault, its open column and the number of its answers
+  pub meant_stop : {A : Type 0} (result : Result A EvalFault) → IfErr result (StopsAt files p) → IfErr result (Stops files dir meta condition)
+  meant_stop result h = subst (λ (q : Placed). IfErr result (StopsAt files q)) there h
+
+  pub meant_kept : {A : Type 0} (column_in : A → OpenColumn) (result : Result A EvalFault) → IfOk result (λ settled. IsKeptOf files p (of p.col) (column_in settled))
+      → IfOk result (λ settled. IsKept files dir meta condition (column_in settled))
+  meant_kept column_in result h =
+      subst (λ (q : Placed). IfOk result (λ settled. IsKeptOf files q condition (column_in settled))) there
+      (subst (λ (c : PlanAtom). IfOk result (λ settled. IsKeptOf files p c (column_in settled))) same h)
+
+  pub meant_length : {A : Type 0} (answers_in : A → List Three) (result : Result A EvalFault) → IfOk result (λ settled. length (answers_in settled) ≡ p.rows)
+      → IfOk result (λ settled. length (answers_in settled) ≡ meta.rows)
+  meant_length answers_in result h = subst (λ (q : Placed). IfOk result (λ settled. length (answers_in settled) ≡ q.rows)) there h

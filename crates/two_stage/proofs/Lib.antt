@@ -1,7 +1,6 @@
 pub mod FreeLemmas
 pub mod EndLemmas
 pub mod FileLemmas
-pub mod HeadLemmas
 pub mod RowReadLemmas
 pub mod CheckLemmas
 pub mod SecondStageLemmas

@@ -10,3 +10,4 @@ pub mod AnsweredLemmas
 pub mod MeantLemmas
 pub mod OpenLemmas
 pub mod AnswerLemmas
+pub mod IndexedLemmas

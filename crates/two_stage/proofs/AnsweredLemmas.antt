@@ -68,7 +68,7 @@ some_there : (o : Option Column) (ty : ColType) → option_map (λ (column : Col
 some_there None ty h = absurd cc
 some_there (Some column) ty h = refl
 
-within_schema : (schema : List Column) (condition : PlanAtom) → FitsColumn schema condition → place_in condition < length schema
+pub within_schema : (schema : List Column) (condition : PlanAtom) → FitsColumn schema condition → place_in condition < length schema
 within_schema schema condition fits = by (slice_get schema (place_in condition)) refl (some_there (slice_get schema (place_in condition)) fits.ty fits.there)
   where
     by : (o : Option Column) → slice_get schema (place_in condition) ≡ o → IsSome o → place_in condition < length schema

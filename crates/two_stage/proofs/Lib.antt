@@ -5,7 +5,9 @@ pub mod RowReadLemmas
 pub mod CheckLemmas
 pub mod SecondStageLemmas
 pub mod PartFileLemmas
+pub mod NameLemmas
 pub mod AnsweredLemmas
+pub mod MeantLemmas
 pub mod OpenLemmas
 pub mod AnswerLemmas
 pub mod IndexedLemmas

@@ -52,7 +52,7 @@ none_in_range p a (suc n) each =
     ap (λ b. b || list_any p (range_with_len (a + 1) n)) (each a (omega arith))
     ∙ none_in_range p (a + 1) n (λ k below. each k (omega arith))
 
-called : (kind : FileKind) (name : List ℕ) → (kind ≡ PartText → ⊥) → IsColumnName name → IsCalled kind (Some name)
+pub called : (kind : FileKind) (name : List ℕ) → (kind ≡ PartText → ⊥) → IsColumnName name → IsCalled kind (Some name)
 called PartText name column valid = absurd (column refl)
 called Values name column valid = valid
 called Mask name column valid = valid
@@ -61,7 +61,7 @@ called Starts name column valid = valid
 called Index name column valid = valid
 
 module _ (dir : List ℕ) (meta : PartMeta) (part : Partition) (valid : IsPart meta) (is : meta ≡ part_data meta.schema part) where
-  column_named : (col : ℕ) → col < length meta.schema → IsColumnName (get_or meta.schema col no_column).name
+  pub column_named : (col : ℕ) → col < length meta.schema → IsColumnName (get_or meta.schema col no_column).name
   column_named col within =
       All-at (λ (column : Column). IsColumnName column.name) meta.schema col (get_or meta.schema col no_column)
       (slice_get-get_or meta.schema col no_column within) valid.schema.named

@@ -44,7 +44,7 @@ asked_unopened : (dir query : List ℕ) (found : Found) (clause : Option Clause)
 unfolding asked_of
 asked_unopened dir query found clause status e h = rw (e, h) refl
 
-asked_there : (dir query : List ℕ) (dataset : Dataset) (clause : Option Clause) → read_clause query ≡ Ok clause
+pub asked_there : (dir query : List ℕ) (dataset : Dataset) (clause : Option Clause) → read_clause query ≡ Ok clause
     → asked_of dir query (There dataset) ≡ resolved dataset.schema clause
 unfolding asked_of
 asked_there dir query dataset clause e = rw e refl

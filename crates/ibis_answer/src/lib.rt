@@ -10,7 +10,7 @@ mod asking;
 mod laws;
 
 pub use answering::{Counted, answer, estimate};
-pub use laws::{estimates_enclose_hits, the_texts_of_answers};
+pub use laws::{an_estimate_encloses_its_answer, the_texts_of_answers};
 
 #[cfg(test)]
 mod tests;

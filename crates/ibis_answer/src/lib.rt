@@ -13,4 +13,6 @@ pub use answering::{Counted, answer, estimate};
 pub use laws::{an_estimate_encloses_its_answer, the_texts_of_answers};
 
 #[cfg(test)]
+mod sample_files;
+#[cfg(test)]
 mod tests;

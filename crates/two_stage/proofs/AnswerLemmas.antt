@@ -37,7 +37,7 @@ use Rattle.part_meaning.specs.Columns.{PartColumn, bins_in, bins_under, cell_of_
 use Rattle.part_meaning.specs.Bitmaps.{bins_say, bitmap_looks, index_places, looks_under, needed_of, needed_under, work_of}
 use Rattle.part_meaning.specs.Known.{bin_says, known, of_codes}
 use Rattle.part_meaning.proofs.BinLemmas.{one_none}
-use Rattle.part_meaning.proofs.ColumnLemmas.{IsColumn, row_has}
+use Rattle.part_meaning.proofs.ColumnLemmas.{IsColumn, number_by, row_has}
 use Rattle.part_meaning.proofs.RangeLemmas.{against_words}
 use Rattle.part_meaning.proofs.KnownLemmas.{text_unknown}
 use Rattle.two_stage.specs.ColumnFiles.{HasColumn}
@@ -154,8 +154,9 @@ ends_order files p column row has none there =
     ap (λ b. bin_at row (cond b (bin ∷ []) [])) (row_among rows row here) ∙ ap (λ b. cond b (Some bin) None) here in
     let same : Some r.bin ≡ Some bin = sym r.at ∙ ap (λ o. bin_at row (bins_under o column.ty column.cells)) none ∙ one in
     let is : r.bin ≡ bin = cc in
-    let low = subst (λ (b : Bin). b.least ≤ℤ _) is r.low in
-    let high = subst (λ (b : Bin). _ ≤ℤ b.greatest) is r.high in
+    let n = number_by (ends_of column.ty) (dictionary_of column.cells) (cell_of_row column row) in
+    let low : bin.least ≤ℤ n = subst (λ (b : Bin). b.least ≤ℤ n) is r.low in
+    let high : n ≤ℤ bin.greatest = subst (λ (b : Bin). n ≤ℤ b.greatest) is r.high in
     int_le-true ends.least ends.greatest (omega (arith, ints, low, high))
 
 -- ---- the words of codes
@@ -172,7 +173,7 @@ module _ (files : Option Files) (p : Placed) (column : PartColumn) (has : HasCol
       let its : AreSpansOf (code_range (dictionary_of column.cells)) (code_meets condition (dictionary_of column.cells)) spans
       = subst (λ (l : List (List ℕ)). AreSpansOf (code_range l) (code_meets condition l) spans) same are in
       ap (λ o. of_codes o (code_meets condition (dictionary_of column.cells)) bin) (ap width_of (has.typed ∙ ty))
-      ∙ sym (against_words condition (dictionary_of column.cells) spans bin.least bin.greatest its h.0 h.1.0 h.1.1)
+      ∙ sym (against_words condition (dictionary_of column.cells) spans bin.least bin.greatest its h.0.0 h.0.1 h.1)
 
   each_same : (bins : List Bin) → All IsCodeBin bins → map (bin_says column (atom.Word col condition)) bins ≡ map (bin_says column (atom.Whole col spans)) bins
   each_same [] h = refl

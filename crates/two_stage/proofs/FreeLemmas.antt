@@ -1,5 +1,5 @@
 -- Reads that are of no bitmap, before the reads of the bitmaps that a condition needs.
-use Rattle.std.proofs.Common.{◌≡◌, ◌⊎◌, inl, inr, ℕ, ◌+◌, ◌<◌, ◌≤◌, Bool, true, false, cond, ◌||◌, ◌&&◌, IsTrue, nat_lt, option_map, List, [], ◌∷◌, ◌++◌, All, Option, Some, None, IsSome, Ok, refl, sym, ap, subst, ◌∙◌, append-nil, arith}
+use Rattle.std.proofs.Common.{◌≡◌, ◌⊎◌, inl, inr, ℕ, ◌+◌, ◌<◌, ◌≤◌, Bool, true, false, cond, ◌||◌, ◌&&◌, IsTrue, nat_lt, option_map, List, [], ◌∷◌, ◌++◌, All, get_or, Option, Some, None, IsSome, Ok, refl, sym, ap, subst, ◌∙◌, append-nil, arith}
 use Rattle.std.specs.Prelude.{slice_index, Result}
 use Rattle.std.specs.List.{AllByRecursion, filter, list_any}
 use Rattle.std.specs.Str.{bytes_eq}
@@ -34,7 +34,7 @@ abbrev pub IsFetch : (Look → Bool) → (Look → Bool) → Look → Type 0
 IsFetch allowed is_bitmap look = (is_bitmap look ≡ true) × (allowed look ≡ true)
 
 true_is : (b : Bool) → b ≡ true → IsTrue b
-true_is b e = subst IsTrue (sym e) tt
+true_is b e = e
 
 module _ (allowed is_bitmap : Look → Bool) (bitmaps : List Look) (done : Type 0) where
   free_front : (xs rest : List Look) → AllByRecursion (IsFree allowed is_bitmap) xs → Looks allowed is_bitmap bitmaps done rest
@@ -114,19 +114,22 @@ mask_apart : (dir : List ℕ) (number : ℕ) (name : List ℕ) → file_name dir
 unfolding file_name leaf
 mask_apart dir number name e =
     apart_by (part_folder dir number) (name ++ codes ".msk") (name ++ codes ".idx")
-    (λ k. let tails : codes ".msk" ≡ codes ".idx" = append_cancel_left name (codes ".msk") (codes ".idx") k in absurd cc) e
+    (λ k. let tails : codes ".msk" ≡ codes ".idx" = append_cancel_left name (codes ".msk") (codes ".idx") k in
+    let second : 109 ≡ 105 = ap (λ (l : List ℕ). get_or l 1 0) tails in absurd (omega (arith, second))) e
 
 words_apart : (dir : List ℕ) (number : ℕ) (name : List ℕ) → file_name dir number (Some name) file.Words ≡ index_name dir number name → ⊥
 unfolding file_name leaf
 words_apart dir number name e =
     apart_by (part_folder dir number) (name ++ codes ".dic") (name ++ codes ".idx")
-    (λ k. let tails : codes ".dic" ≡ codes ".idx" = append_cancel_left name (codes ".dic") (codes ".idx") k in absurd cc) e
+    (λ k. let tails : codes ".dic" ≡ codes ".idx" = append_cancel_left name (codes ".dic") (codes ".idx") k in
+    let second : 100 ≡ 105 = ap (λ (l : List ℕ). get_or l 1 0) tails in absurd (omega (arith, second))) e
 
 starts_apart : (dir : List ℕ) (number : ℕ) (name : List ℕ) → file_name dir number (Some name) file.Starts ≡ index_name dir number name → ⊥
 unfolding file_name leaf
 starts_apart dir number name e =
     apart_by (part_folder dir number) (name ++ codes ".sp") (name ++ codes ".idx")
-    (λ k. let tails : codes ".sp" ≡ codes ".idx" = append_cancel_left name (codes ".sp") (codes ".idx") k in absurd cc) e
+    (λ k. let tails : codes ".sp" ≡ codes ".idx" = append_cancel_left name (codes ".sp") (codes ".idx") k in
+    let second : 115 ≡ 105 = ap (λ (l : List ℕ). get_or l 1 0) tails in absurd (omega (arith, second))) e
 
 not_same : (a b : List ℕ) → (a ≡ b → ⊥) → bytes_eq a b ≡ false
 not_same a b f = by (bytes_eq a b) refl
@@ -182,10 +185,10 @@ module _ (dir : List ℕ) (number : ℕ) (column : PartColumn) (look : Look) whe
 
   free_words : (ty : ColType) (spec : List FileKind) → ty ≡ Category → look.name ≡ file_name dir number (Some column.name) file.Words
       → list_any (λ kind. bytes_eq look.name (file_name dir number (Some column.name) kind)) (file.Mask ∷ kinds_by_type ty ++ spec) ≡ true
-  free_words Category spec e h =
-      or_right (bytes_eq look.name (file_name dir number (Some column.name) file.Mask)) _
-      (or_left (bytes_eq look.name (file_name dir number (Some column.name) file.Words)) _ (same_bytes _ _ h))
-  free_words ty spec e h = subst (λ (t : ColType). list_any (λ kind. bytes_eq look.name (file_name dir number (Some column.name) kind)) (file.Mask ∷ kinds_by_type t ++ spec) ≡ true) (sym e) (free_words Category spec refl h)
+  free_words ty spec e h =
+      subst (λ (t : ColType). list_any (λ kind. bytes_eq look.name (file_name dir number (Some column.name) kind)) (file.Mask ∷ kinds_by_type t ++ spec) ≡ true) (sym e)
+      (or_right (bytes_eq look.name (file_name dir number (Some column.name) file.Mask)) _
+      (or_left (bytes_eq look.name (file_name dir number (Some column.name) file.Words)) _ (same_bytes _ _ h)))
 
   pub words_free : column.ty ≡ Category → look.name ≡ file_name dir number (Some column.name) file.Words
       → IsFree (is_free_of dir number column) (is_bitmap_of dir number column) look
@@ -194,10 +197,10 @@ module _ (dir : List ℕ) (number : ℕ) (column : PartColumn) (look : Look) whe
 
   free_starts : (ty : ColType) (spec : List FileKind) → ty ≡ Text → look.name ≡ file_name dir number (Some column.name) file.Starts
       → list_any (λ kind. bytes_eq look.name (file_name dir number (Some column.name) kind)) (file.Mask ∷ kinds_by_type ty ++ spec) ≡ true
-  free_starts Text spec e h =
-      or_right (bytes_eq look.name (file_name dir number (Some column.name) file.Mask)) _
-      (or_left (bytes_eq look.name (file_name dir number (Some column.name) file.Starts)) _ (same_bytes _ _ h))
-  free_starts ty spec e h = subst (λ (t : ColType). list_any (λ kind. bytes_eq look.name (file_name dir number (Some column.name) kind)) (file.Mask ∷ kinds_by_type t ++ spec) ≡ true) (sym e) (free_starts Text spec refl h)
+  free_starts ty spec e h =
+      subst (λ (t : ColType). list_any (λ kind. bytes_eq look.name (file_name dir number (Some column.name) kind)) (file.Mask ∷ kinds_by_type t ++ spec) ≡ true) (sym e)
+      (or_right (bytes_eq look.name (file_name dir number (Some column.name) file.Mask)) _
+      (or_left (bytes_eq look.name (file_name dir number (Some column.name) file.Starts)) _ (same_bytes _ _ h)))
 
   pub starts_free : column.ty ≡ Text → look.name ≡ file_name dir number (Some column.name) file.Starts
       → IsFree (is_free_of dir number column) (is_bitmap_of dir number column) look

@@ -1,6 +1,6 @@
 -- The reads of the head of an index: they end where its first bitmap begins, or before.
-use Rattle.std.proofs.Common.{◌≡◌, ◌⊎◌, inl, inr, ℕ, ◌+◌, ◌*◌, ◌<◌, ◌≤◌, ◌==◌, Bool, true, false, cond, List, [], ◌∷◌, get_or, length, take, drop, Option, Some, None, Result, Ok, Err, refl, sym, ap, subst, ◌∙◌, arith}
-use Rattle.std.specs.Prelude.{Unit, slice_index}
+use Rattle.std.proofs.Common.{◌≡◌, ◌⊎◌, inl, inr, ℕ, suc, ◌+◌, ◌*◌, ◌<◌, ◌≤◌, ◌==◌, Bool, true, false, cond, List, [], ◌∷◌, get_or, length, take, drop, Option, Some, None, Result, Ok, Err, refl, sym, ap, subst, ◌∙◌, arith}
+use Rattle.std.specs.Prelude.{slice_index, option_map, nat_lt}
 use Rattle.std.proofs.lemmas.Bool.Decides.{Decides-eqb}
 use Rattle.fb_outside.specs.Files.{Files, file_at, told_at}
 use Rattle.fb_outside.specs.Reads.{Look}
@@ -8,7 +8,7 @@ use Rattle.index_spec.specs.Counts.{bitmap_count}
 use Rattle.index_spec.specs.declared.spec.Spec.{Spec}
 use Rattle.index_file.specs.Front.{front_in, rest_size, size_of, sizes_at}
 use Rattle.index_file.specs.Opening.{EndsBy, Head, IsHeadLook, counted, head_in, index_in, parts_in, placed, some_head, with_bins, with_front, with_places, with_rest, with_spec, tested, spec_in, rest_in, places_at, bins_in as edges_in}
-use Rattle.index_file.specs.Places.{first_wrong_place}
+use Rattle.index_file.specs.Places.{first_close, first_wrong_place, last_from, or_else}
 use Rattle.index_file.specs.declared.edge.Edge.{Edge}
 use Rattle.index_file.specs.declared.fault.IndexFault.{IndexFault}
 use Rattle.index_file.proofs.OpenedLemmas.{front_sizes}
@@ -25,7 +25,7 @@ first_right head size (place ∷ places) e = by (place == head) refl
     by : (b : Bool) → (place == head) ≡ b → place ≡ head
     by true h = (Decides-eqb place head).0 h
     by false h =
-        let wrong : Some 0 ≡ (let o : Option ℕ = None in o) = sym (ap (λ b. cond b _ (Some 0)) h) ∙ e in
+        let wrong : Some 0 ≡ (let o : Option ℕ = None in o) = sym (ap (λ b. cond b (or_else (option_map suc (first_close place places)) (cond (last_from place places == size) None (Some (length places)))) (Some 0)) h) ∙ e in
         absurd cc
 
 by_places : (spec : Spec) (bins : List Edge) (at size : ℕ) (places : List ℕ) (o : Option ℕ) (head : Head) → first_wrong_place at size places ≡ o

@@ -42,7 +42,6 @@ unfolding bitmap_looks needed_of bins_say
 exists_looks dir number column col = by column.spec refl
   where
     by : (o : Option Spec) → column.spec ≡ o → bitmap_looks dir number column (atom.Exists col) ≡ []
-    unfolding bitmap_looks needed_of bins_say
     by None e = ap (λ o. looks_under o (index_name dir number column.name) column (atom.Exists col)) e
     by (Some spec) e =
         ap (λ o. looks_under o (index_name dir number column.name) column (atom.Exists col)) e
@@ -164,3 +163,7 @@ module _ (files : Option Files) (p : Placed) (column : PartColumn) (has : HasCol
 
 pub no_looks : (p : Placed) (column : PartColumn) (condition : PlanAtom) → column.spec ≡ None → bitmap_looks p.dir p.number column condition ≡ []
 no_looks p column condition e = unindexed_looks p.dir p.number column condition e
+
+-- the files stayed
+pub still_column : (files mid : Option Files) (p : Placed) (column : PartColumn) → mid ≡ files → HasColumn files p column → HasColumn mid p column
+still_column files mid p column e h = subst (λ (o : Option Files). HasColumn o p column) (sym e) h

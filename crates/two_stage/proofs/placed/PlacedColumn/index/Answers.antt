@@ -17,5 +17,5 @@ returns-in-Ok-Some-clause-whole g c =
 pub returns-in-Ok-Some-clause-reads : goal.returns-in-Ok-Some-clause-reads
 returns-in-Ok-Some-clause-reads g c =
     subst (λ (o : Option (List Look)). AddsOnly (IsHeadLook (g.S.Store.files c.args.store.now) (index_file c.args.self.now)) o (g.S.Store.reads c.index_at.new.store)) c.len.ensures.reads
-    (subst (λ (o : Option Files). AddsOnly (IsHeadLook o (index_file c.args.self.now)) (g.S.Store.reads c.len.new.store) (g.S.Store.reads c.index_at.new.store)) c.len.ensures.files
+    (subst (λ (o : Option Files). AddsOnly (IsHeadLook o (index_file c.args.self.now)) (g.S.Store.reads c.len.new.self) (g.S.Store.reads c.index_at.new.store)) c.len.ensures.files
     c.index_at.ensures.reads)

@@ -173,7 +173,7 @@ module _ (files : Option Files) (p : Placed) (column : PartColumn) (has : HasCol
       let its : AreSpansOf (code_range (dictionary_of column.cells)) (code_meets condition (dictionary_of column.cells)) spans
       = subst (λ (l : List (List ℕ)). AreSpansOf (code_range l) (code_meets condition l) spans) same are in
       ap (λ o. of_codes o (code_meets condition (dictionary_of column.cells)) bin) (ap width_of (has.typed ∙ ty))
-      ∙ sym (against_words condition (dictionary_of column.cells) spans bin.least bin.greatest its h.0.0 h.0.1 h.1)
+      ∙ sym (against_words condition (dictionary_of column.cells) spans bin.least bin.greatest its h.0 h.1 h.2)
 
   each_same : (bins : List Bin) → All IsCodeBin bins → map (bin_says column (atom.Word col condition)) bins ≡ map (bin_says column (atom.Whole col spans)) bins
   each_same [] h = refl

@@ -11,3 +11,4 @@ pub mod MeantLemmas
 pub mod OpenLemmas
 pub mod AnswerLemmas
 pub mod IndexedLemmas
+pub mod HeldLemmas

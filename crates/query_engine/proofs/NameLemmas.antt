@@ -1,5 +1,5 @@
 -- Reads of a part are of files of that part, and no other part's.
-use Rattle.std.proofs.Common.{◌≡◌, ℕ, zero, suc, ◌+◌, ◌<◌, ◌&&◌, ◌||◌, Bool, true, false, List, [], ◌∷◌, ◌++◌, All, length, get_or, Option, Some, None, refl, sym, ap, subst, ◌∙◌, arith}
+use Rattle.std.proofs.Common.{◌≡◌, ℕ, zero, suc, ◌+◌, ◌<◌, ◌||◌, Bool, true, false, List, [], ◌∷◌, ◌++◌, length, get_or, Option, Some, None, refl, sym, ap, subst, ◌∙◌, arith}
 use Rattle.std.specs.Prelude.{option_map, slice_get, slice_index_or}
 use Rattle.std.specs.List.{AllByRecursion, list_any, range_with_len}
 use Rattle.std.specs.Str.{bytes_eq}
@@ -14,7 +14,7 @@ use Rattle.fb_types.specs.Names.{IsColumnName}
 use Rattle.fb_types.specs.Schemas.{IsSchema}
 use Rattle.part_meta.specs.FileNames.{IsCalled, file_name, index_name, values_name}
 use Rattle.part_meta.specs.declared.names.FileKind.{FileKind}
-use Rattle.part_meta.specs.declared.names.FileKind.TheVariants.{PartText, Values, Mask, Words, Starts, Index}
+use Rattle.part_meta.specs.declared.names.FileKind.TheVariants.{Values, Index}
 use Rattle.part_meta.proofs.FileNameLemmas.{same_file}
 use Rattle.where_plan.specs.Plans.{FitsColumn, FitsSchema, place_in}
 use Rattle.where_plan.specs.declared.plan.Plan.{Plan}
@@ -25,7 +25,7 @@ use Rattle.stages.specs.Answer.{is_allowed_in, is_allowed_on, is_free_in}
 use Rattle.world.specs.World.{Partition}
 use Rattle.world.proofs.PlaceLemmas.{All-at}
 use Rattle.part_meaning.specs.Columns.{PartColumn, column_at, no_column}
-use Rattle.part_meaning.specs.Files.{free_kinds, from_bitmaps, is_bitmap_of, is_free_of, is_of_rows, kinds_by_spec, kinds_by_type}
+use Rattle.part_meaning.specs.Files.{free_kinds, is_bitmap_of, is_free_of, is_of_rows, kinds_by_spec, kinds_by_type}
 use Rattle.part_meaning.specs.Meaning.{meaning_of}
 use Rattle.part_meaning.specs.Parts.{column_for, is_bitmap_in}
 

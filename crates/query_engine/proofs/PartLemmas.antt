@@ -1,10 +1,9 @@
 -- The parts of a dataset are apart: a read of one is of no other's bitmaps.
-use Rattle.std.proofs.Common.{◌≡◌, ℕ, zero, suc, ◌+◌, ◌*◌, ◌<◌, ◌≤◌, Bool, true, IsTrue, List, [], ◌∷◌, length, map, Option, Some, refl, sym, ap, subst, ◌∙◌, arith}
+use Rattle.std.proofs.Common.{◌≡◌, ℕ, zero, suc, ◌+◌, ◌*◌, ◌<◌, ◌≤◌, Bool, List, [], ◌∷◌, length, map, Option, Some, refl, sym, ap, subst, ◌∙◌, arith}
 use Rattle.std.specs.Prelude.{option_map, slice_get}
 use Rattle.std.proofs.lemmas.Option.{slice_get-map}
 use Rattle.fb_outside.specs.Files.{Files}
 use Rattle.fb_outside.specs.Reads.{Look}
-use Rattle.fb_types.specs.declared.schemas.Column.{Column}
 use Rattle.part_meta.specs.declared.part.PartMeta.{PartMeta}
 use Rattle.where_plan.specs.declared.plan.Plan.{Plan}
 use Rattle.wah_logic.specs.Logic.{groups_and_rest}

@@ -1,13 +1,13 @@
 -- The walk over the parts: what is known after the first of them.
-use Rattle.std.proofs.Common.{◌≡◌, ℕ, ◌+◌, ◌*◌, ◌^◌, ◌<◌, ◌≤◌, Bool, true, IsTrue, List, [], ◌∷◌, ◌++◌, length, map, take, drop, Option, Some, refl, sym, ap, subst, ◌∙◌, arith}
+use Rattle.std.proofs.Common.{◌≡◌, ℕ, ◌+◌, ◌≤◌, Bool, true, List, length, take, drop, Option, Some, refl, sym, subst, arith}
 use Rattle.std.specs.Prelude.{slice_get}
-use Rattle.std.specs.List.{flat_map, list_any, sum_by}
+use Rattle.std.specs.List.{flat_map, list_any}
 use Rattle.fb_outside.specs.Files.{Files}
 use Rattle.fb_outside.specs.Reads.{Look}
 use Rattle.where_plan.specs.declared.plan.Plan.{Plan}
 use Rattle.stages.specs.Answer.{bitmaps_in}
 use Rattle.stages.specs.Looks.{AddsLooks}
-use Rattle.stages.proofs.ListLemmas.{all_taken, any_at, flat_map_front, flat_map_taken, map_taken, sum_by_front, sum_by_taken}
+use Rattle.stages.proofs.ListLemmas.{all_taken, any_at, flat_map_front, flat_map_taken, sum_by_front, sum_by_taken}
 use Rattle.stages.proofs.LookLemmas.{adds_done, adds_front, adds_joined, adds_none, adds_weaker}
 use Rattle.world.specs.World.{Partition}
 use Rattle.dataset.specs.Opened.{IsDataset}

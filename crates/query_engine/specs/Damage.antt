@@ -1,5 +1,5 @@
 -- Which file a refused plan names as damaged, and what is wrong with it.
-use Rattle.std.specs.Prelude.{◌≡◌, ⊤, ℕ, List, Option, Some, None, option_map, slice_get, slice_index_or}
+use Rattle.std.specs.Prelude.{◌≡◌, ⊤, ℕ, Option, Some, None, option_map, slice_get, slice_index_or}
 use Rattle.fb_outside.specs.Files.{Files}
 use Rattle.column_file.specs.declared.fault.ColFault.{ColFault}
 use Rattle.column_file.specs.declared.fault.ColFault.TheVariants as column
@@ -13,7 +13,6 @@ use Rattle.part_meta.specs.FileNames.{file_name}
 use Rattle.part_meta.specs.declared.names.FileKind.{FileKind}
 use Rattle.part_meta.specs.declared.names.FileKind.TheVariants as file
 use Rattle.part_meta.specs.declared.part.PartMeta.{PartMeta}
-use Rattle.where_plan.specs.Plans.{place_in}
 use Rattle.where_plan.specs.declared.plan.Plan.{Plan}
 use Rattle.where_plan.specs.declared.plan.PlanAtom.{PlanAtom}
 use Rattle.three_valued.specs.Plans.{atoms_of}

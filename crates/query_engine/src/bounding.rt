@@ -42,7 +42,8 @@ pub fn bounds<S: Store, L: Ledger>(
         → bounds.definite ≡ definite_over dataset.now.schema parts plan.now) }
     ensures possible { IfOk result (λ bounds. (parts : List Partition) → AreParts (S.files store.old) dataset.now parts
         → bounds.possible ≡ possible_over dataset.now.schema parts plan.now) }
-    ensures whole { IfErr result (λ fault. (parts : List Partition) → AreParts (S.files store.old) dataset.now parts → NoDamage fault) }
+    ensures whole { IfErr result (λ fault. (parts : List Partition) → AreParts (S.files store.old) dataset.now parts
+        → NoDamage fault) }
     ensures reads { (parts : List Partition) → AreParts (S.files store.old) dataset.now parts
         → AddsLooks (S.reads store.old) (S.reads store.new) (is_free_over dataset.now parts plan.now)
         (is_bitmap_over dataset.now parts) (bitmaps_over dataset.now parts plan.now) (IsOk result) }

@@ -56,7 +56,8 @@ pub fn choose<S: Store, L: Ledger>(
         → chosen.hits ≡ hits_over plan.now parts) }
     ensures checked { IfOk result (λ chosen. (parts : List Partition) → AreParts (S.files store.old) dataset.now parts
         → chosen.checked ≡ checked_over dataset.now.schema parts plan.now) }
-    ensures whole { IfErr result (λ fault. (parts : List Partition) → AreParts (S.files store.old) dataset.now parts → NoDamage fault) }
+    ensures whole { IfErr result (λ fault. (parts : List Partition) → AreParts (S.files store.old) dataset.now parts
+        → NoDamage fault) }
     ensures reads { (parts : List Partition) → AreParts (S.files store.old) dataset.now parts
         → AddsLooks (S.reads store.old) (S.reads store.new) (is_allowed_over dataset.now parts plan.now)
         (is_bitmap_over dataset.now parts) (bitmaps_over dataset.now parts plan.now) (IsOk result) }

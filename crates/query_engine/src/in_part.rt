@@ -53,7 +53,8 @@ pub(crate) fn choose_in<S: Store, L: Ledger>(
         → hits.rows ≡ rows_that_hold plan.now p) }
     ensures checked { IfOk result (λ hits. (p : Partition) → IsPartAt (S.files store.old) dataset.now.dir part.now p
         → hits.checked ≡ checked_in dataset.now.schema p plan.now) }
-    ensures whole { IfErr result (λ fault. (p : Partition) → IsPartAt (S.files store.old) dataset.now.dir part.now p → NoDamage fault) }
+    ensures whole { IfErr result (λ fault. (p : Partition) → IsPartAt (S.files store.old) dataset.now.dir part.now p
+        → NoDamage fault) }
     ensures reads { (p : Partition) → IsPartAt (S.files store.old) dataset.now.dir part.now p
         → AddsLooks (S.reads store.old) (S.reads store.new) (is_allowed_in (means_in dataset.now p) plan.now)
         (is_bitmap_in dataset.now.dir dataset.now.schema p) (bitmaps_in (means_in dataset.now p) plan.now) (IsOk result) }
@@ -92,7 +93,8 @@ pub(crate) fn bound_in<S: Store, L: Ledger>(
         → bounds.definite ≡ definite_in dataset.now.schema p plan.now) }
     ensures possible { IfOk result (λ bounds. (p : Partition) → IsPartAt (S.files store.old) dataset.now.dir part.now p
         → bounds.possible ≡ possible_in dataset.now.schema p plan.now) }
-    ensures whole { IfErr result (λ fault. (p : Partition) → IsPartAt (S.files store.old) dataset.now.dir part.now p → NoDamage fault) }
+    ensures whole { IfErr result (λ fault. (p : Partition) → IsPartAt (S.files store.old) dataset.now.dir part.now p
+        → NoDamage fault) }
     ensures reads { (p : Partition) → IsPartAt (S.files store.old) dataset.now.dir part.now p
         → AddsLooks (S.reads store.old) (S.reads store.new) (is_free_in (means_in dataset.now p) plan.now)
         (is_bitmap_in dataset.now.dir dataset.now.schema p) (bitmaps_in (means_in dataset.now p) plan.now) (IsOk result) }

@@ -1,7 +1,7 @@
-use Rattle.std.proofs.Common.{◌≡◌, ◌+◌, ◌*◌, ◌≤◌, List, length, true, false, refl, sym, ap, subst, arith}
+use Rattle.std.proofs.Common.{◌≡◌, List, true, false, subst}
 use Rattle.fb_types.specs.declared.schemas.Column.{Column}
 use Rattle.stages.specs.Answer.{is_allowed_in}
-use Rattle.part_meaning.specs.Answers.{checked_in, definite_in, possible_in}
+use Rattle.part_meaning.specs.Answers.{checked_in}
 use Rattle.query_engine.proofs.FaultLemmas.{stopped_column}
 use Rattle.query_engine.proofs.PartLemmas.{listed_at, own_reads, own_steps, row_limit}
 use Rattle.query_engine.proofs.in_part.choose_in.Goals as goal

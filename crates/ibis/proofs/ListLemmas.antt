@@ -28,9 +28,8 @@ use Rattle.statuses.specs.declared.stop.Unanswered.{Unanswered}
 use Rattle.statuses.specs.declared.stop.Unanswered.TheVariants.{Refused, StoreFault, OutOfMemory}
 use Rattle.ibis.specs.Indexes.{AreIndexes, AreSound, Indexed, IsDamaged, IsFirstDamaged, IsFirstOfPart, spec_at, spec_said}
 use Rattle.ibis.specs.Listing.{AreListed, IsListed, ListedPart, column_line, index_line, line_by, listing, part_line, part_lines, schema_line}
-use Rattle.ibis.specs.ListSteps.{DatasetGives, IndexGives, PartGives, Refuses}
+use Rattle.ibis.specs.ListSteps.{DatasetGives, IndexGives, PartGives, Refuses, stop_of_part}
 use Rattle.ibis.specs.Looks.{IsIndexLook, IsListLook, IsPartIndexLook}
-use Rattle.ibis.specs.Steps.{stop_of_part}
 
 all_joined : {X : Type 0} (P : X → Type 0) (xs ys : List X) → AllByRecursion P xs → AllByRecursion P ys → AllByRecursion P (xs ++ ys)
 all_joined P [] ys h k = k

@@ -96,6 +96,8 @@ fn is_session(asked: &Option<Job>) -> bool
 }
 
 #[cfg(test)]
+mod answer_tests;
+#[cfg(test)]
 mod listing_tests;
 #[cfg(test)]
 mod tests;

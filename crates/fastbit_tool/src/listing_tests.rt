@@ -75,9 +75,11 @@ fn the_index_that_is_built_is_listed(rt: HostRuntime) -> Result<(), Fail> {
     Ok(())
 }
 
-const LINES: &str = "ardea -d P -m 'a:int,b:category,c:text' -p 2 -t n.csv\nibis -d P -b '<encoding range/>' -k b,a\nardea -d P -m 'a:int,b:category,c:text' -t n.csv\nibis -d P -l\n";
+const LINES: &str =
+    "ardea -d P -m 'a:int,b:category,c:text' -p 2 -t n.csv\nibis -d P -b '<encoding range/>' -k b,a\nardea -d P -m 'a:int,b:category,c:text' -t n.csv\nibis -d P -l\n";
 
-const REPLIES: &str = "loaded 3 rows\nbuilt 4 indexes\nloaded 3 rows\nschema a:int,b:category,c:text\npart 0 rows 2\nindex a <binning none/><encoding range/>\nindex b <binning none/><encoding range/>\npart 1 rows 1\nindex a <binning none/><encoding range/>\nindex b <binning none/><encoding range/>\npart 2 rows 3\n";
+const REPLIES: &str =
+    "loaded 3 rows\nbuilt 4 indexes\nloaded 3 rows\nschema a:int,b:category,c:text\npart 0 rows 2\nindex a <binning none/><encoding range/>\nindex b <binning none/><encoding range/>\npart 1 rows 1\nindex a <binning none/><encoding range/>\nindex b <binning none/><encoding range/>\npart 2 rows 3\n";
 
 /// In the order of the schema, part by part; a part that was loaded since has none.
 #[test]

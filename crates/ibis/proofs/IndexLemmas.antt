@@ -99,10 +99,11 @@ edges_of : (keys : Keying) (column : List (Option ℤ)) (ks : List ℤ) → AllB
 edges_of keys column [] fit among = tt
 edges_of keys column (k ∷ ks) fit among =
     let ends = ends_there keys column k (among k (or_left (int_eq k k) (is_in k ks) (eq_self k))) in
-    let all : AllByRecursion (FitsSigned w128) (values_with keys k column) = kept_all (FitsSigned w128) (λ v. int_eq (key keys v) k) (present column) fit in
-    (
-      (is_of (FitsSigned w128) (values_with keys k column) (bin_of keys column k).least all ends.0,
-        is_of (FitsSigned w128) (values_with keys k column) (bin_of keys column k).greatest all ends.1),
+    let all : AllByRecursion (FitsSigned w128) (values_with keys k column) = kept_all (FitsSigned w128) (λ v. int_eq (key keys v) k) (present column) fit in (
+      (
+        is_of (FitsSigned w128) (values_with keys k column) (bin_of keys column k).least all ends.0,
+        is_of (FitsSigned w128) (values_with keys k column) (bin_of keys column k).greatest all ends.1,
+      ),
       edges_of keys column ks fit (λ q h. among q (in_later q k ks h)),
     )
 

@@ -83,23 +83,21 @@ module _ (files : Option Files) (dataset : Dataset) (part : PartMeta) (column : 
   pub line_gives : (head : IndexHead) (old new : List ℕ) → is_some (width_of column.ty) ≡ true
       → IfSome files (λ m. OpensIndex m dataset part column (Ok (Some head))) → new ≡ old ++ index_line column.name head.spec
       → IndexGives files dataset part column old new (Ok tt)
-  line_gives head old new w opens e =
-      (
-        Some head.spec,
-        when_told (λ m. OpensIndex m dataset part column (Ok (Some head))) (λ m. spec_at m dataset part column ≡ Ok (Some head.spec))
+  line_gives head old new w opens e = (
+    Some head.spec,
+    when_told (λ m. OpensIndex m dataset part column (Ok (Some head))) (λ m. spec_at m dataset part column ≡ Ok (Some head.spec))
         (λ m h. asked_of_width m w ∙ ap spec_said h) files opens,
-        e,
-      )
+    e,
+  )
 
   pub none_gives : (text : List ℕ) → is_some (width_of column.ty) ≡ true
       → IfSome files (λ m. OpensIndex m dataset part column (Ok None)) → IndexGives files dataset part column text text (Ok tt)
-  none_gives text w opens =
-      (
-        None,
-        when_told (λ m. OpensIndex m dataset part column (Ok None)) (λ m. spec_at m dataset part column ≡ Ok None)
+  none_gives text w opens = (
+    None,
+    when_told (λ m. OpensIndex m dataset part column (Ok None)) (λ m. spec_at m dataset part column ≡ Ok None)
         (λ m h. asked_of_width m w ∙ ap spec_said h) files opens,
-        sym (append-nil text),
-      )
+    sym (append-nil text),
+  )
 
   pub index_stops : (old new : List ℕ) (fault : PartFault) → is_some (width_of column.ty) ≡ true
       → IfSome files (λ m. OpensIndex m dataset part column (Err fault)) → IfDamaged fault (IsOfIndex dataset part column)
@@ -250,12 +248,11 @@ module _ (files : Option Files) (dataset : Dataset) where
 
   first_in_parts : (k : ℕ) (part : PartMeta) (mid : List ℕ) (stop : Unanswered) → slice_get dataset.parts k ≡ Some part → DatasetSoFar files dataset k mid
       → Refuses (IsFirstOfPart files dataset part) stop → Refuses (IsFirstDamaged files dataset) stop
-  first_in_parts k part mid (Refused status) there h r =
-      (
-        r.0,
-        r.1,
-        record { part = part; place = k; listed = there; before = all_sound (take k dataset.parts) h.parts h.are.are h.are.each; first = r.2 },
-      )
+  first_in_parts k part mid (Refused status) there h r = (
+    r.0,
+    r.1,
+    record { part = part; place = k; listed = there; before = all_sound (take k dataset.parts) h.parts h.are.are h.are.each; first = r.2 },
+  )
   first_in_parts k part mid StoreFault there h r = tt
   first_in_parts k part mid OutOfMemory there h r = tt
 

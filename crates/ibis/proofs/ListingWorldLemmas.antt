@@ -61,8 +61,8 @@ module _ (m : Files) (dataset : Dataset) where
       let world : spec_at m dataset part column ≡ Ok (get p.specs from) = says 0 column refl ∙ ap (λ n. Ok (get p.specs n)) here in
       let spec : i.spec ≡ get p.specs from = ok_same i.spec (get p.specs from) (spec_at m dataset part column) said world in
       let later : Says part p (from + 1) columns = λ k c at.
-          let next : from + suc k ≡ from + 1 + k = omega arith in
-          says (suc k) c at ∙ ap (λ n. Ok (get p.specs n)) next in
+      let next : from + suc k ≡ from + 1 + k = omega arith in
+      says (suc k) c at ∙ ap (λ n. Ok (get p.specs n)) next in
       two_lists i (record { column = column; spec = get p.specs from }) indexed (indexed_from p (from + 1) columns)
       (same_indexed i column (get p.specs from) first spec) (indexed_are part p (from + 1) columns indexed later rest h.1)
 

@@ -53,12 +53,15 @@ fn store_of<R: Abort + AllocGlobal>(rt: &R) -> MemStore {
 const LISTED: &[u8] = b"schema a:int,b:category\npart 0 rows 2\npart 2 rows 3\n";
 
 /// The head of an index of 2 rows whose values are bins each, and of none: so the file ends behind it.
-const EACH: &[u8] = b"FBIX\x01\x00\x00\x00\x02\x00\x00\x00\x00\x00\x00\x00\x00\x00\x00\x00\x23\x00\x00\x00<binning none/><encoding equality/>\x43\x00\x00\x00\x00\x00\x00\x00";
+const EACH: &[u8] =
+    b"FBIX\x01\x00\x00\x00\x02\x00\x00\x00\x00\x00\x00\x00\x00\x00\x00\x00\x23\x00\x00\x00<binning none/><encoding equality/>\x43\x00\x00\x00\x00\x00\x00\x00";
 
 /// The same of 3 rows by their first digits.
-const DIGITS: &[u8] = b"FBIX\x01\x00\x00\x00\x03\x00\x00\x00\x00\x00\x00\x00\x00\x00\x00\x00\x27\x00\x00\x00<binning precision=1/><encoding range/>\x47\x00\x00\x00\x00\x00\x00\x00";
+const DIGITS: &[u8] =
+    b"FBIX\x01\x00\x00\x00\x03\x00\x00\x00\x00\x00\x00\x00\x00\x00\x00\x00\x27\x00\x00\x00<binning precision=1/><encoding range/>\x47\x00\x00\x00\x00\x00\x00\x00";
 
-const INDEXED: &[u8] = b"schema a:int,b:category\npart 0 rows 2\nindex b <binning none/><encoding equality/>\npart 2 rows 3\nindex a <binning precision=1/><encoding range/>\n";
+const INDEXED: &[u8] =
+    b"schema a:int,b:category\npart 0 rows 2\nindex b <binning none/><encoding equality/>\npart 2 rows 3\nindex a <binning precision=1/><encoding range/>\n";
 
 fn put_file<R: Abort + AllocGlobal>(rt: &R, store: &mut MemStore, name: &str, bytes: &[u8]) {
     assert!(rt; store.put(named(rt, name).as_str(), bytes).is_ok());

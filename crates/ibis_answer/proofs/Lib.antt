@@ -1,1 +1,1 @@
-pub mod QueryLemmas
+pub mod NoLooks

@@ -1,2 +1,1 @@
 pub mod SumLemmas
-pub mod NameLemmas

@@ -5,6 +5,7 @@ use fb_outside::MemStore;
 use std::alloc::AllocError;
 use std::process::Abort;
 use std::test::Fail;
+use steps::Count;
 
 type Row = (&'static [&'static str], u8, &'static str);
 

@@ -3,6 +3,7 @@
 use crate::tests::{LOAD, expect_load, expect_words, keep};
 use fb_outside::MemStore;
 use std::test::Fail;
+use steps::Count;
 
 const TEN: &str = "1\n2\n3\n4\n5\n6\n7\n8\n9\n10\n";
 

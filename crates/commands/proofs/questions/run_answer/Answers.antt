@@ -42,7 +42,7 @@ returns-in-Err-Refused-clause-store_cause g c =
 
 pub returns-in-Ok-clause-allowed : goal.returns-in-Ok-clause-allowed
 returns-in-Ok-clause-allowed g c =
-    reads_later is_allowed_over c.args.dir.now c.args.query.now _ _ _ _ _ (λ done. tt) c.in-Ok.ensures.allowed
+    reads_later is_allowed_over c.args.dir.now c.args.query.now _ _ _ _ _ (λ done. refl) c.in-Ok.ensures.allowed
 
 pub returns-in-Err-Refused-clause-allowed : goal.returns-in-Err-Refused-clause-allowed
 returns-in-Err-Refused-clause-allowed g c =

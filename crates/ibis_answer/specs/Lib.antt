@@ -1,0 +1,4 @@
+pub mod Query
+pub mod Answer
+pub mod Causes
+pub mod Looks

@@ -1,0 +1,6 @@
+//! A stand-in: why conditions aren't answered.
+#![tactic(auto)]
+
+mod fault;
+
+pub use fault::EvalFault;

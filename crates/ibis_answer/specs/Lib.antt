@@ -2,3 +2,4 @@ pub mod Query
 pub mod Answer
 pub mod Causes
 pub mod Looks
+pub mod Asked

@@ -9,14 +9,17 @@ ghost use Rattle.query_engine.specs.Reads.{is_allowed_over, is_free_over};
 ghost use Rattle.world.specs.Stands.{StandsFor};
 ghost use Rattle.world.specs.World.{World};
 ghost use Rattle.ibis_answer.specs.Answer.{between_in, counted_in};
+ghost use Rattle.ibis_answer.specs.Asked.{stop_of_ask};
 ghost use Rattle.ibis_answer.specs.Causes.{Gives, IsOfWorld};
 ghost use Rattle.ibis_answer.specs.Looks.{IsAnswerLook, ReadsInWorld, steps_in};
 ghost use Rattle.ibis_answer.specs.Query.{read_clause};
 
+use crate::asking::asked;
 use fb_outside::{FileName, Store};
 use fb_types::Label;
+use query_engine::{AskFault, bounds, choose};
 use stages::Bounds;
-use statuses::Unanswered;
+use statuses::{Unanswered, damaged};
 use std::alloc::Global;
 use std::sync::ledger::Ledger;
 use steps::Steps;
@@ -30,7 +33,7 @@ pub struct Counted {
 
 /// How many records of the dataset at the path the query asks for. No file changes.
 pub fn answer<S: Store, L: Ledger>(
-    _alloc: Global,
+    alloc: Global,
     dir: &FileName,
     query: &Label,
     store: &mut S,
@@ -51,13 +54,20 @@ pub fn answer<S: Store, L: Ledger>(
     ensures allowed { ReadsInWorld is_allowed_over dir.now query.now (S.files store.old) (S.reads store.old) (S.reads store.new) (IsOk result) }
     ensures steps { (world : World) → StandsFor (S.files store.old) world → steps.new ≤ steps.old + steps_in dir.now query.now world }
 {
-    Err(Unanswered::OutOfMemory)
+    let asked = asked(alloc, dir, query, store)?;
+    match choose(alloc, store, &asked.dataset, &asked.plan, steps) {
+        Ok(chosen) => Ok(Counted {
+            hits: chosen.hits,
+            checked: chosen.checked,
+        }),
+        Err(fault) => Err(stop_of_ask(fault)),
+    }
 }
 
 /// Between how many records of the dataset at the path and how many the query asks for, as far as the bins of its columns
 /// decide it. No file changes.
 pub fn estimate<S: Store, L: Ledger>(
-    _alloc: Global,
+    alloc: Global,
     dir: &FileName,
     query: &Label,
     store: &mut S,
@@ -78,5 +88,25 @@ pub fn estimate<S: Store, L: Ledger>(
     ensures allowed { ReadsInWorld is_free_over dir.now query.now (S.files store.old) (S.reads store.old) (S.reads store.new) (IsOk result) }
     ensures steps { (world : World) → StandsFor (S.files store.old) world → steps.new ≤ steps.old + steps_in dir.now query.now world }
 {
-    Err(Unanswered::OutOfMemory)
+    let asked = asked(alloc, dir, query, store)?;
+    match bounds(alloc, store, &asked.dataset, &asked.plan, steps) {
+        Ok(found) => Ok(found),
+        Err(fault) => Err(stop_of_ask(fault)),
+    }
+}
+
+/// What a plan that isn't answered is answered by.
+fn stop_of_ask(fault: AskFault) -> Unanswered
+    ensures { result ≡ stop_of_ask fault }
+{
+    match fault {
+        AskFault::Damaged {
+            file,
+            kind,
+            want,
+            have,
+        } => damaged(file, kind, want, have),
+        AskFault::Store => Unanswered::StoreFault,
+        AskFault::OutOfMemory => Unanswered::OutOfMemory,
+    }
 }

@@ -1,5 +1,5 @@
 -- Which file a refused plan names as damaged, and what is wrong with it.
-use Rattle.std.specs.Prelude.{◌≡◌, ⊤, ℕ, List, Option, Some, None, option_map, slice_get, slice_index_or}
+use Rattle.std.specs.Prelude.{◌≡◌, ⊤, ℕ, Option, Some, None, option_map, slice_get, slice_index_or}
 use Rattle.fb_outside.specs.Files.{Files}
 use Rattle.column_file.specs.declared.fault.ColFault.{ColFault}
 use Rattle.column_file.specs.declared.fault.ColFault.TheVariants as column
@@ -13,7 +13,6 @@ use Rattle.part_meta.specs.FileNames.{file_name}
 use Rattle.part_meta.specs.declared.names.FileKind.{FileKind}
 use Rattle.part_meta.specs.declared.names.FileKind.TheVariants as file
 use Rattle.part_meta.specs.declared.part.PartMeta.{PartMeta}
-use Rattle.where_plan.specs.Plans.{place_in}
 use Rattle.where_plan.specs.declared.plan.Plan.{Plan}
 use Rattle.where_plan.specs.declared.plan.PlanAtom.{PlanAtom}
 use Rattle.three_valued.specs.Plans.{atoms_of}
@@ -33,49 +32,49 @@ use Rattle.query_engine.specs.declared.findings.Finding.{Finding}
 -- ---- what a fault says of the files of its column: None where none is damaged
 
 -- a file of that kind is damaged so
-abbrev pub finding : FileKind → DamageKind → Finding
-finding kind damage = record { file = kind; kind = damage; want = 0; have = 0 }
+abbrev pub without_numbers : FileKind → DamageKind → Finding
+without_numbers kind damage = record { file = kind; kind = damage; want = 0; have = 0 }
 
 -- the same with the two numbers of the fault
-abbrev pub counted : FileKind → DamageKind → (want have : ℕ) → Finding
-counted kind damage want have = record { file = kind; kind = damage; want = want; have = have }
+abbrev pub with_numbers : FileKind → DamageKind → (want have : ℕ) → Finding
+with_numbers kind damage want have = record { file = kind; kind = damage; want = want; have = have }
 
 abbrev pub column_finding : ColFault → Option Finding
-column_finding column.Missing = Some (finding file.Values Missing)
-column_finding (column.WrongLength want have) = Some (counted file.Values Length want have)
-column_finding column.MaskMissing = Some (finding file.Mask Missing)
-column_finding (column.Mask why) = Some (finding file.Mask Mask)
-column_finding column.MaskTrailing = Some (finding file.Mask Mask)
-column_finding (column.MaskLength want have) = Some (counted file.Mask Mask want have)
+column_finding column.Missing = Some (without_numbers file.Values Missing)
+column_finding (column.WrongLength want have) = Some (with_numbers file.Values Length want have)
+column_finding column.MaskMissing = Some (without_numbers file.Mask Missing)
+column_finding (column.Mask why) = Some (without_numbers file.Mask Mask)
+column_finding column.MaskTrailing = Some (without_numbers file.Mask Mask)
+column_finding (column.MaskLength want have) = Some (with_numbers file.Mask Mask want have)
 column_finding column.Store = None
 column_finding column.OutOfMemory = None
 
 -- of a mask alone
 abbrev pub mask_finding : ColFault → Finding
-mask_finding column.MaskMissing = finding file.Mask Missing
-mask_finding (column.MaskLength want have) = counted file.Mask Mask want have
-mask_finding why = finding file.Mask Mask
+mask_finding column.MaskMissing = without_numbers file.Mask Missing
+mask_finding (column.MaskLength want have) = with_numbers file.Mask Mask want have
+mask_finding why = without_numbers file.Mask Mask
 
 abbrev pub index_finding : IndexFault → Option Finding
-index_finding (index.Rows want have) = Some (counted file.Index Index want have)
-index_finding (index.Count want have) = Some (counted file.Index Index want have)
+index_finding (index.Rows want have) = Some (with_numbers file.Index Index want have)
+index_finding (index.Count want have) = Some (with_numbers file.Index Index want have)
 index_finding index.Store = None
 index_finding index.OutOfMemory = None
-index_finding why = Some (finding file.Index Index)
+index_finding why = Some (without_numbers file.Index Index)
 
 abbrev pub words_finding : DicFault → Option Finding
-words_finding words.Missing = Some (finding file.Words Missing)
+words_finding words.Missing = Some (without_numbers file.Words Missing)
 words_finding words.Store = None
 words_finding words.OutOfMemory = None
-words_finding why = Some (finding file.Words Words)
+words_finding why = Some (without_numbers file.Words Words)
 
 abbrev pub text_finding : TextFault → Option Finding
-text_finding text.Missing = Some (finding file.Values Missing)
-text_finding text.StartsMissing = Some (finding file.Starts Missing)
-text_finding (text.StartsLength want have) = Some (counted file.Starts Starts want have)
-text_finding (text.NotRising row) = Some (finding file.Starts Starts)
-text_finding (text.LastStart want have) = Some (counted file.Values Length want have)
-text_finding text.ShortRead = Some (finding file.Values Length)
+text_finding text.Missing = Some (without_numbers file.Values Missing)
+text_finding text.StartsMissing = Some (without_numbers file.Starts Missing)
+text_finding (text.StartsLength want have) = Some (with_numbers file.Starts Starts want have)
+text_finding (text.NotRising row) = Some (without_numbers file.Starts Starts)
+text_finding (text.LastStart want have) = Some (with_numbers file.Values Length want have)
+text_finding text.ShortRead = Some (without_numbers file.Values Length)
 text_finding (text.Mask why) = Some (mask_finding why)
 text_finding text.Store = None
 text_finding text.OutOfMemory = None

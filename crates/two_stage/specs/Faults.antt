@@ -1,9 +1,8 @@
 -- What a fault says of the files of a condition's column.
-use Rattle.std.specs.Prelude.{◌≡◌, ◌⊎◌, ◌+◌, ◌<◌, ⊤, ℕ, List, [], length, Option, Some, IfSome, Ok, Err, slice_index, slice_index_or}
+use Rattle.std.specs.Prelude.{◌≡◌, ◌⊎◌, ◌+◌, ◌<◌, ⊤, ℕ, List, length, Option, Some, IfSome, Ok, Err, slice_index}
 use Rattle.fb_outside.specs.Files.{Files, bytes_at, file_at}
-use Rattle.fb_types.specs.declared.schemas.Column.{Column}
-use Rattle.fb_types.specs.Types.{width_of}
 use Rattle.column_file.specs.Opening.{column_in, mask_in}
+use Rattle.column_file.specs.Values.{width_in}
 use Rattle.column_file.specs.declared.fault.ColFault.{ColFault}
 use Rattle.column_file.specs.declared.fault.ColFault.TheVariants as column
 use Rattle.index_file.specs.Fetching.{bitmap_in}
@@ -17,12 +16,13 @@ use Rattle.text_column.specs.declared.fault.DicFault.{DicFault}
 use Rattle.text_column.specs.declared.fault.DicFault.TheVariants as words
 use Rattle.text_column.specs.declared.fault.TextFault.{TextFault}
 use Rattle.text_column.specs.declared.fault.TextFault.TheVariants as text
-use Rattle.part_meta.specs.FileNames.{file_name, index_name, mask_name, values_name}
-use Rattle.part_meta.specs.declared.names.FileKind.TheVariants as file
+use Rattle.bin_answers.specs.declared.fault.BinsFault.{BinsFault}
+use Rattle.bin_answers.specs.declared.fault.BinsFault.TheVariants as bins
+use Rattle.candidates.specs.declared.fault.FindFault.{FindFault}
+use Rattle.candidates.specs.declared.fault.FindFault.TheVariants as find
 use Rattle.part_meta.specs.declared.part.PartMeta.{PartMeta}
-use Rattle.where_plan.specs.Plans.{place_in}
 use Rattle.where_plan.specs.declared.plan.PlanAtom.{PlanAtom}
-use Rattle.part_meaning.specs.Columns.{no_column}
+use Rattle.two_stage.specs.Placed.{Placed, index_file, mask_file, placed_of, starts_file, values_file, words_file}
 use Rattle.two_stage.specs.declared.fault.EvalFault.{EvalFault}
 use Rattle.two_stage.specs.declared.fault.EvalFault.TheVariants.{Col, Index, Words, Text, OutOfMemory}
 
@@ -38,6 +38,10 @@ IsOfStore why = ⊥
 abbrev pub IsOfMemory : EvalFault → Type 0
 IsOfMemory OutOfMemory = ⊤
 IsOfMemory why = ⊥
+
+-- the store failed, or memory ran out
+abbrev pub IsOutside : EvalFault → Type 0
+IsOutside fault = IsOfStore fault ⊎ IsOfMemory fault
 
 -- ---- what a lower fault is answered by: want of memory by itself
 
@@ -57,46 +61,23 @@ abbrev pub texts_fault : ℕ → TextFault → EvalFault
 texts_fault col text.OutOfMemory = OutOfMemory
 texts_fault col why = Text col why
 
--- ---- the files of a column, over files that are told
+-- the same of bins, and of candidates
+abbrev pub bins_fault : ℕ → BinsFault → EvalFault
+bins_fault col (bins.Index why) = index_fault col why
+bins_fault col bins.OutOfMemory = OutOfMemory
 
--- where a column's files are: the path, the part's number and rows, the column and its place in the schema
-pub record Placed : Type 0 where
-  pub dir : List ℕ
-  pub number : ℕ
-  pub rows : ℕ
-  pub col : ℕ
-  pub column : Column
+abbrev pub found_fault : ℕ → FindFault → EvalFault
+found_fault col (find.Values why) = column_fault col why
+found_fault col (find.Texts why) = texts_fault col why
+found_fault col find.OutOfMemory = OutOfMemory
 
--- where the files of a condition's column are
-abbrev pub placed_of : List ℕ → PartMeta → PlanAtom → Placed
-placed_of dir meta condition = record {
-  dir = dir;
-  number = meta.number;
-  rows = meta.rows;
-  col = place_in condition;
-  column = slice_index_or meta.schema (place_in condition) no_column;
-}
-
-abbrev pub mask_file : Placed → List ℕ
-mask_file p = mask_name p.dir p.number p.column.name
-
-abbrev pub values_file : Placed → List ℕ
-values_file p = values_name p.dir p.number p.column.name
-
-abbrev pub words_file : Placed → List ℕ
-words_file p = file_name p.dir p.number (Some p.column.name) file.Words
-
-abbrev pub starts_file : Placed → List ℕ
-starts_file p = file_name p.dir p.number (Some p.column.name) file.Starts
-
-abbrev pub index_file : Placed → List ℕ
-index_file p = index_name p.dir p.number p.column.name
+-- ---- over files that are told
 
 -- the mask file is refused so, or the values file and the mask file of numbers or codes are
 pub data IsColumnFault (files : Files) (p : Placed) (why : ColFault) : Type 0 where
   OfMask : mask_in p.rows (file_at files (mask_file p)) ≡ Err why → IsColumnFault files p why
-  OfColumn : (width : ℕ) → width_of p.column.ty ≡ Some width
-      → column_in width p.rows (file_at files (values_file p)) (file_at files (mask_file p)) ≡ Err why → IsColumnFault files p why
+  OfColumn : column_in (width_in p.column.ty) p.rows (file_at files (values_file p)) (file_at files (mask_file p)) ≡ Err why
+      → IsColumnFault files p why
 
 -- the head of the index file is refused so, or a bitmap of it is
 pub data IsIndexFault (files : Files) (p : Placed) (why : IndexFault) : Type 0 where
@@ -105,7 +86,7 @@ pub data IsIndexFault (files : Files) (p : Placed) (why : IndexFault) : Type 0 w
       → bitmap_in k p.rows (room_at head.places k) (bytes_at files (index_file p) (slice_index head.places k) (room_at head.places k)) ≡ Err why
       → IsIndexFault files p why
 
--- ---- the same of a store, which may not tell its files; no fault wraps want of memory
+-- ---- of a store, which may not tell its files; no fault wraps want of memory
 
 abbrev pub ColumnStops : Option Files → Placed → ColFault → Type 0
 ColumnStops files p column.Store = ⊤
@@ -139,7 +120,3 @@ StopsAt files p OutOfMemory = ⊤
 -- the same of the column of a condition
 abbrev pub Stops : Option Files → List ℕ → PartMeta → PlanAtom → EvalFault → Type 0
 Stops files dir meta condition fault = StopsAt files (placed_of dir meta condition) fault
-
--- the store failed, or memory ran out
-abbrev pub IsOutside : EvalFault → Type 0
-IsOutside fault = IsOfStore fault ⊎ IsOfMemory fault

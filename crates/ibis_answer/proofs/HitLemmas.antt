@@ -30,7 +30,7 @@ module _ (schema : List Column) (clause : Option Clause) (plan : Plan) (is : IsP
       let first = hits_in part (All-head (IsPartition schema) part parts valid) in
       let rest = hits_by parts (All-tail (IsPartition schema) part parts valid) in
       let split : length (filter (is_asked_for clause schema) (flat_map (λ (p : Partition). p.records) (part ∷ parts)))
-          ≡ length (filter (is_asked_for clause schema) part.records) + length (filter (is_asked_for clause schema) records) =
+      ≡ length (filter (is_asked_for clause schema) part.records) + length (filter (is_asked_for clause schema) records) =
       ap (λ rs. length (filter (is_asked_for clause schema) rs)) (flat_map-cons (λ (p : Partition). p.records) part parts)
       ∙ ap length (filter-append (is_asked_for clause schema) part.records records)
       ∙ length-append (filter (is_asked_for clause schema) part.records) (filter (is_asked_for clause schema) records) in

@@ -143,7 +143,7 @@ module _ (m : Files) (world : World) (dir : List ℕ) (stands : Stands m world) 
       let of_part = part_of_text look text in
       let below = low of_part.0 of_part.1 of_part.2 in
       let same = same_file dir dir number text.number (Some h.column) None h.kind PartText less (subst (λ n. n < 4096) of_part.3 below) h.called refl
-          (sym h.is ∙ ap (λ (l : Look). l.name) text.whole) in
+      (sym h.is ∙ ap (λ (l : Look). l.name) text.whole) in
       let bad : Some h.column ≡ None = same.2 in cc
 
   no_bitmap : (look : Look) → IsListedLook m dir look → is_bitmap_over (dataset_in dir content) content.parts look ≡ false

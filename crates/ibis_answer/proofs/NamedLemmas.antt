@@ -31,7 +31,6 @@ module _ (name : List ℕ) where
   abbrev named : Clause → Bool
   named part = names (Some part) name
 
-
   names-or : (parts : List Clause) → named (clause.Or parts) ≡ list_any named parts
   names-or parts =
       ap (fold-Clause Bool (names_by_parts name)) (sym (rolls-Or parts)) ∙ fold-roll-Clause Bool (names_by_parts name) (Clause-F.Or parts) ∙ any_mapped named parts

@@ -153,8 +153,8 @@ counted_of_world dir query (Some m) after question hits checked path is kept som
     let planned = is_plan_of there.content.schema is.clause question.plan there.planned in
     let all = some there.content.parts parts ∙ hits_of_parts there.content.schema is.clause question.plan there.planned there.content.parts there.valid in
     let values = few there.content.parts parts
-        ∙ ap (λ (d : Dataset). checked_over d.schema there.content.parts question.plan) there.same
-        ∙ ap (checked_over there.content.schema there.content.parts) planned in
+    ∙ ap (λ (d : Dataset). checked_over d.schema there.content.parts question.plan) there.same
+    ∙ ap (checked_over there.content.schema there.content.parts) planned in
     given_in counted_in dir query world is.clause there.content (record { hits = hits; checked = checked }) there.asked there.at
     (ap (λ n. let c : Counted = record { hits = n; checked = checked } in c) all
     ∙ ap (λ n. let c : Counted = record { hits = hits_of there.content; checked = n } in c) values)
@@ -172,11 +172,11 @@ between_of_world dir query (Some m) after question bounds path is kept low high 
     let parts = subst (λ (f : Option Files). AreParts f question.dataset there.content.parts) (sym kept) there.parts in
     let planned = is_plan_of there.content.schema is.clause question.plan there.planned in
     let least = low there.content.parts parts
-        ∙ ap (λ (d : Dataset). definite_over d.schema there.content.parts question.plan) there.same
-        ∙ ap (definite_over there.content.schema there.content.parts) planned in
+    ∙ ap (λ (d : Dataset). definite_over d.schema there.content.parts question.plan) there.same
+    ∙ ap (definite_over there.content.schema there.content.parts) planned in
     let most = high there.content.parts parts
-        ∙ ap (λ (d : Dataset). possible_over d.schema there.content.parts question.plan) there.same
-        ∙ ap (possible_over there.content.schema there.content.parts) planned in
+    ∙ ap (λ (d : Dataset). possible_over d.schema there.content.parts question.plan) there.same
+    ∙ ap (possible_over there.content.schema there.content.parts) planned in
     given_in between_in dir query world is.clause there.content bounds there.asked there.at
     (ap (λ n. let b : Bounds = record { definite = n; possible = bounds.possible } in b) least
     ∙ ap (λ n. let b : Bounds = record { definite = definite_over there.content.schema there.content.parts (plan_of there.content.schema is.clause); possible = n } in b) most)

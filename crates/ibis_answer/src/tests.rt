@@ -198,7 +198,11 @@ fn numbers_of_answers_and_estimates(rt: HostRuntime) -> Result<(), Fail> {
 fn a_damaged_index_is_named(rt: HostRuntime) -> Result<(), Fail> {
     let mut store = store_of(&rt);
     let dir = path(&rt, "D");
-    assert!(rt; store.put("D/p0000/a.idx", b"FBIX").is_ok());
+    assert!(rt;
+        store
+            .put(named(&rt, "D/p0000/a.idx").as_str(), b"FBIX")
+            .is_ok()
+    );
     let line = "error 8 damaged D/p0000/a.idx Index\n";
     check_answer(&rt, rt.blank(), &mut store, &dir, "where a < 4", line)?;
     check_estimate(&rt, rt.blank(), &mut store, &dir, "where a < 4", line)?;

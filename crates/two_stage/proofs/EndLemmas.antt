@@ -129,9 +129,10 @@ codes_there words [] fit coded = tt
 codes_there words (Null ∷ column) fit coded =
     codes_there words column (All-tail (λ cell. CellFits cell Category) Null column fit) (λ row word e. coded (suc row) word e)
 codes_there words (Whole n ∷ column) fit coded = absurd (All-head (λ cell. CellFits cell Category) (Whole n) column fit)
-codes_there words (Word word ∷ column) fit coded =
-    (word_code words word (coded zero word refl),
-    codes_there words column (All-tail (λ cell. CellFits cell Category) (Word word) column fit) (λ row other e. coded (suc row) other e))
+codes_there words (Word word ∷ column) fit coded = (
+  word_code words word (coded zero word refl),
+  codes_there words column (All-tail (λ cell. CellFits cell Category) (Word word) column fit) (λ row other e. coded (suc row) other e),
+)
 
 -- where a row has a value there is a word
 some_word : (words : List (List ℕ)) (column : List Cell) → All (λ cell. CellFits cell Category) column → AreCoded words column

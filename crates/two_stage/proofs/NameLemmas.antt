@@ -137,7 +137,7 @@ module _ (dir : List ℕ) (meta : PartMeta) (part : Partition) (valid : IsPart m
       (λ same.
       let equal = (bytes_eq-Decides look.name (index_name dir part.number (name_at other))).0 same in
       let both = same_file dir dir part.number part.number (Some (name_at col)) (Some (name_at other)) kind file.Index below below
-          (called kind (name_at col) own (column_named dir meta part valid is col within)) (column_named dir meta part valid is other among) (sym named ∙ equal) in
+      (called kind (name_at col) own (column_named dir meta part valid is col within)) (column_named dir meta part valid is other among) (sym named ∙ equal) in
       differs (same_column other among (some_is (name_at col) (name_at other) both.2)))
 
   -- is one of the part's bitmaps where it is one of the column's

@@ -77,8 +77,8 @@ module _ (dir : List ℕ) (meta : PartMeta) (part : Partition) (valid : IsPart m
       (λ same.
       let equal = (bytes_eq-Decides read.name (index_name dir part.number (get_or meta.schema other no_column).name)).0 same in
       let both = same_file dir dir meta.number part.number (Some (get_or meta.schema col no_column).name) (Some (get_or meta.schema other no_column).name)
-          kind Index valid.number (subst (λ n. n < 4096) number valid.number)
-          (called kind (get_or meta.schema col no_column).name column (column_named col within)) (column_named other among) (sym named ∙ equal) in
+      kind Index valid.number (subst (λ n. n < 4096) number valid.number)
+      (called kind (get_or meta.schema col no_column).name column (column_named col within)) (column_named other among) (sym named ∙ equal) in
       bitmap both.3)
     where
       by : (more b : Bool) → (b ≡ true → ⊥) → (b && more) ≡ false
@@ -152,16 +152,16 @@ has_texts files dir meta part col opened has within kept =
     let number : meta.number ≡ part.number = ap (λ (p : PartMeta). p.number) has.is in
     let rows : meta.rows ≡ length part.records = ap (λ (p : PartMeta). p.rows) has.is in
     let there = text_there m dir part.number column.name cells column.ty kept.typed
-        (column_there m dir meta.schema part col column t.holds (slice_get-get_or meta.schema col no_column within)) in
+    (column_there m dir meta.schema part col column t.holds (slice_get-get_or meta.schema col no_column within)) in
     let opens : text_in meta.rows (file_at m (values_name dir meta.number column.name)) (file_at m (file_name dir meta.number (Some column.name) Starts))
-        (file_at m (mask_name dir meta.number column.name)) ≡ Ok (opened.starts.items, kept.mask)
-        = subst (λ o. IfSome o (λ m. text_in meta.rows (file_at m (values_name dir meta.number column.name)) (file_at m (file_name dir meta.number (Some column.name) Starts))
-        (file_at m (mask_name dir meta.number column.name)) ≡ Ok (opened.starts.items, kept.mask))) t.told kept.opens in
+    (file_at m (mask_name dir meta.number column.name)) ≡ Ok (opened.starts.items, kept.mask)
+    = subst (λ o. IfSome o (λ m. text_in meta.rows (file_at m (values_name dir meta.number column.name)) (file_at m (file_name dir meta.number (Some column.name) Starts))
+    (file_at m (mask_name dir meta.number column.name)) ≡ Ok (opened.starts.items, kept.mask))) t.told kept.opens in
     let written = texts_open m dir meta.schema part col has.valid t.holds within kept.typed in
     let opens_too = subst (λ k. text_in k (file_at m (values_name dir part.number column.name)) (file_at m (file_name dir part.number (Some column.name) Starts))
-        (file_at m (mask_name dir part.number column.name)) ≡ Ok (starts_of (texts_of cells), map is_present cells)) (sym rows) written in
+    (file_at m (mask_name dir part.number column.name)) ≡ Ok (starts_of (texts_of cells), map is_present cells)) (sym rows) written in
     let opens_here = subst (λ n. text_in meta.rows (file_at m (values_name dir n column.name)) (file_at m (file_name dir n (Some column.name) Starts))
-        (file_at m (mask_name dir n column.name)) ≡ Ok (starts_of (texts_of cells), map is_present cells)) (sym number) opens_too in
+    (file_at m (mask_name dir n column.name)) ≡ Ok (starts_of (texts_of cells), map is_present cells)) (sym number) opens_too in
     record {
       told =
           ap (λ o. told_at o opened.name) t.told
@@ -184,7 +184,7 @@ words_are files dir meta part col words has within typed read =
     let cells = column_cells col part.records in
     let number : meta.number ≡ part.number = ap (λ (p : PartMeta). p.number) has.is in
     let opens : words_in (file_at t.m (file_name dir meta.number (Some column.name) Words)) ≡ Ok words
-        = subst (λ o. IfSome o (λ m. words_in (file_at m (file_name dir meta.number (Some column.name) Words)) ≡ Ok words)) t.told read in
+    = subst (λ o. IfSome o (λ m. words_in (file_at m (file_name dir meta.number (Some column.name) Words)) ≡ Ok words)) t.told read in
     let written = subst (λ n. words_in (file_at t.m (file_name dir n (Some column.name) Words)) ≡ Ok (dictionary_of cells)) (sym number)
-        (words_open t.m dir meta.schema part col has.valid t.holds within typed) in
+    (words_open t.m dir meta.schema part col has.valid t.holds within typed) in
     same_words (words_in (file_at t.m (file_name dir meta.number (Some column.name) Words))) words (dictionary_of cells) opens written

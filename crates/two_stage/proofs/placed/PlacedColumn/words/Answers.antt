@@ -3,7 +3,6 @@ use Rattle.fb_types.specs.Types.{width_of}
 use Rattle.two_stage.specs.Placed.{Placed, index_file, mask_file, starts_file, values_file, words_file}
 use Rattle.two_stage.specs.Faults.{IsOutside}
 use Rattle.two_stage.specs.declared.fault.EvalFault.{EvalFault}
-
 use Rattle.std.specs.Prelude.{◌≡◌}
 use Rattle.fb_types.specs.declared.types.ColType.TheVariants.{Category}
 use Rattle.two_stage.proofs.OpenLemmas.{at_view, words_is, words_whole}

@@ -6,12 +6,11 @@ ghost use Rattle.fb_outside.specs.Files.{SameFiles};
 ghost use Rattle.fb_outside.specs.Names.{IsPath};
 ghost use Rattle.fb_outside.specs.Reads.{AddsOnly};
 ghost use Rattle.command_words.specs.Valid.{IsValidTask};
-ghost use Rattle.query_engine.specs.Reads.{is_allowed_over, is_free_over};
 ghost use Rattle.ibis.specs.Looks.{IsListLook};
-ghost use Rattle.ibis_answer.specs.Looks.{IsAnswerLook, ReadsInWorld};
+ghost use Rattle.ibis_answer.specs.Looks.{IsAnswerLook};
 ghost use Rattle.ibis_build.specs.Looks.{IsBuildLook};
 ghost use Rattle.commands.specs.Command.{Answers, Estimates, Lists, command_of_task};
-ghost use Rattle.commands.specs.Looks.{IsLookOf, ReadsAllowed, StepsWithin, TakesSteps};
+ghost use Rattle.commands.specs.Looks.{IsLookOf, ReadsAllowed, TakesSteps};
 ghost use Rattle.commands.specs.Runs.{BuildRuns, Leaves, Runs};
 
 use crate::printing::{print_bounds, print_built, print_counted, print_text, refuse};
@@ -72,8 +71,8 @@ fn run_answer<S: Store, K: Sink, L: Ledger>(
         (K.written out.old) (K.written out.new) result }
     ensures files { SameFiles (S.files store.old) (S.files store.new) }
     ensures reads { AddsOnly (IsAnswerLook dir.now query.now) (S.reads store.old) (S.reads store.new) }
-    ensures allowed { ReadsInWorld is_allowed_over dir.now query.now (S.files store.old) (S.reads store.old) (S.reads store.new) (result ≡ Status.Done) }
-    ensures steps { StepsWithin dir.now query.now (S.files store.old) steps.old steps.new }
+    ensures allowed { ReadsAllowed (Answers dir.now query.now tell) (S.files store.old) (S.reads store.old) (S.reads store.new) result }
+    ensures steps { TakesSteps (Answers dir.now query.now tell) (S.files store.old) steps.old steps.new }
     ensures store_cause { HasCause (S.faults store.old) (S.faults store.new) (result ≡ Status.StoreFault) }
     ensures print_cause { HasCause (K.faults out.old) (K.faults out.new) (result ≡ Status.SinkFault) }
 {
@@ -100,8 +99,8 @@ fn run_estimate<S: Store, K: Sink, L: Ledger>(
         (K.written out.old) (K.written out.new) result }
     ensures files { SameFiles (S.files store.old) (S.files store.new) }
     ensures reads { AddsOnly (IsAnswerLook dir.now query.now) (S.reads store.old) (S.reads store.new) }
-    ensures allowed { ReadsInWorld is_free_over dir.now query.now (S.files store.old) (S.reads store.old) (S.reads store.new) (result ≡ Status.Done) }
-    ensures steps { StepsWithin dir.now query.now (S.files store.old) steps.old steps.new }
+    ensures allowed { ReadsAllowed (Estimates dir.now query.now) (S.files store.old) (S.reads store.old) (S.reads store.new) result }
+    ensures steps { TakesSteps (Estimates dir.now query.now) (S.files store.old) steps.old steps.new }
     ensures store_cause { HasCause (S.faults store.old) (S.faults store.new) (result ≡ Status.StoreFault) }
     ensures print_cause { HasCause (K.faults out.old) (K.faults out.new) (result ≡ Status.SinkFault) }
 {

@@ -54,7 +54,7 @@ module _ {A : Type 0} (text : A → List ℕ) (numbers : Option Clause → Optio
       })
       plain prints
 
-  declines_with : (refusal : Status) → Comes dir query files (Err refusal) → ((w : World) → StandsFor files w → Err refusal ≡ asked_in numbers dir query w)
+  declines_with : (refusal : Status) → Comes {A = A} dir query files (Err refusal) → ((w : World) → StandsFor files w → Err refusal ≡ asked_in numbers dir query w)
       → Prints refusal (line_of refusal) before after status → Runs command left files before after status
   declines_with refusal comes world prints = runs_with (Err refusal) comes world (IsRefusal-answer dir query files refusal comes).no_fault prints
 
@@ -65,7 +65,7 @@ module _ (dir query : List ℕ) (tell : Bool) (left : Option (List ℕ)) (files 
       runs_with (answer_text tell) counted_in dir query (Answers dir query tell) (λ input w. refl) (λ l f reply h. h) left files before after status
       (Ok counted) comes world refl prints
 
-  pub answer_declines : (refusal : Status) → Comes {Counted} dir query files (Err refusal)
+  pub answer_declines : (refusal : Status) → Comes {A = Counted} dir query files (Err refusal)
       → ((w : World) → StandsFor files w → Err refusal ≡ asked_in counted_in dir query w)
       → Prints refusal (line_of refusal) before after status → Runs (Answers dir query tell) left files before after status
   answer_declines refusal comes world prints =
@@ -84,7 +84,7 @@ module _ (dir query : List ℕ) (left : Option (List ℕ)) (files : Option Files
       runs_with between_line between_in dir query (Estimates dir query) (λ input w. refl) (λ l f reply h. h) left files before after status
       (Ok bounds) comes world refl prints
 
-  pub estimate_declines : (refusal : Status) → Comes {Bounds} dir query files (Err refusal)
+  pub estimate_declines : (refusal : Status) → Comes {A = Bounds} dir query files (Err refusal)
       → ((w : World) → StandsFor files w → Err refusal ≡ asked_in between_in dir query w)
       → Prints refusal (line_of refusal) before after status → Runs (Estimates dir query) left files before after status
   estimate_declines refusal comes world prints =

@@ -164,18 +164,18 @@ asked_so dir query found =
     (λ dataset. fits_so clause (refusal_of dataset.schema clause)))
 
 answer_by : (A : Type 0) (files : Option Files) (found : Found) (r : Result (Option Clause) Status) (status : Status) → FailsSo r
-    → ComesBy {A} files found r (Err status) → IsRefusal status
+    → ComesBy {A = A} files found r (Err status) → IsRefusal status
 answer_by A files found (Err why) status h comes =
     let is : why ≡ status = let e : ◌≡◌ {A = Result A Status} (Err status) (Err why) = comes in cc in
     subst IsRefusal is (at_refusal (Option Clause) why h)
 answer_by A files found (Ok clause) status h comes =
     let found = comes.0 in
     record {
-      no_fault = ap is_fault comes.1.0;
-      not_done = λ e. let bad : Damaged found.file found.kind found.want found.have ≡ Done = sym comes.1.0 ∙ e in cc;
+      no_fault = ap is_fault comes.1;
+      not_done = λ e. let bad : Damaged found.file found.kind found.want found.have ≡ Done = sym comes.1 ∙ e in cc;
     }
 
-pub IsRefusal-answer : {A : Type 0} (dir query : List ℕ) (files : Option Files) (status : Status) → Comes {A} dir query files (Err status) → IsRefusal status
+pub IsRefusal-answer : {A : Type 0} (dir query : List ℕ) (files : Option Files) (status : Status) → Comes {A = A} dir query files (Err status) → IsRefusal status
 IsRefusal-answer {A} dir query files status h =
     answer_by A files h.found (asked_of dir query h.found) status (asked_so dir query h.found) h.comes
 

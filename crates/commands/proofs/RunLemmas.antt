@@ -110,7 +110,7 @@ no_effects (Loads load) input w h = absurd h
 no_effects (Answers dir query tell) input w h = told_none (answer_text tell) (asked_in counted_in dir query w)
 no_effects (Estimates dir query) input w h = told_none between_line (asked_in between_in dir query w)
 no_effects (Builds dir text list) input w h = absurd h
-no_effects (Lists dir) input w h = listed_none (list_result dir (found_in w dir))
+no_effects (Lists dir) input w h = listed_none (list_result dir (found_in w dir) (content_at w dir))
 no_effects Unknown input w h = refl
 
 pub question_takes : (command : Command) → IsQuestion command → takes_input command ≡ false

@@ -14,8 +14,9 @@ use Rattle.statuses.specs.Lines.{line_of}
 use Rattle.statuses.specs.Outcome.{refused}
 use Rattle.ibis.specs.Query.{read_query}
 use Rattle.ibis.specs.Count.{CountComes, CountsBy, IsCountIn, answer_of, asked_of, count_outcome, counted, hits_line}
-use Rattle.ibis.proofs.WorldLemmas.{count_refused, list_is}
-use Rattle.ibis.specs.Listing.{ListComes, list_outcome, list_result, listed}
+use Rattle.ibis.proofs.ListingWorldLemmas.{list_is}
+use Rattle.ibis.proofs.WorldLemmas.{count_refused}
+use Rattle.ibis.specs.Listing.{ListComes, list_outcome, listed}
 use Rattle.commands.specs.Command.{Counts, Lists}
 use Rattle.commands.specs.Runs.{Answers, Prints, Runs, SaysSame, Unstored}
 use Rattle.commands.proofs.PrintLemmas.{some_input, some_told}

@@ -34,7 +34,7 @@ use Rattle.ibis_build.specs.Builds as builds
 use Rattle.ibis_build.specs.Builds.{Asked, spec_or_refusal}
 use Rattle.ibis_build.specs.Causes.{BuildComes, BuildsBy, Damages, IsRefused, Passes}
 use Rattle.ibis_build.specs.Columns.{can_have_index_at, chosen_columns, column_or_refusal, columns_behind, place_in}
-use Rattle.ibis.specs.Listing.{ListComes, list_result, listing}
+use Rattle.ibis.specs.Listing.{ListComes, ListsBy}
 use Rattle.ibis.specs.declared.query.Below.{Below}
 use Rattle.ibis.specs.Query.{column_in, query_or_refusal, read_query, resolved, typed_or_refusal}
 use Rattle.commands.specs.Reply.{is_fault}
@@ -177,12 +177,19 @@ pub IsRefusal-count : (dir query : List ℕ) (files : Option Files) (status : St
 IsRefusal-count dir query files status h =
     count_by files h.found (asked_of dir query h.found) status (asked_so dir query h.found) h.counts
 
-list_so : (dir : List ℕ) (found : Found) → FailsSo (list_result dir found)
-unfolding list_result
-list_so dir found = step (dataset_or_refusal dir found) _ (dataset_so dir found) (λ dataset. good {A = List ℕ} (listing dataset))
+list_by : (files : Option Files) (r : Result Dataset Status) (status : Status) → FailsSo r → ListsBy files r (Err status) → IsRefusal status
+list_by files (Err why) status h is =
+    let same : why ≡ status = let e : ◌≡◌ {A = Result (List ℕ) Status} (Err status) (Err why) = is in cc in
+    subst IsRefusal same (at_refusal Dataset why h)
+list_by files (Ok dataset) status h damaged =
+    let found = damaged.0 in
+    record {
+      no_fault = ap is_fault damaged.1;
+      not_done = λ e. let bad : Damaged found.file found.kind found.want found.have ≡ Done = sym damaged.1 ∙ e in cc;
+    }
 
 pub IsRefusal-list : (dir : List ℕ) (files : Option Files) (status : Status) → ListComes dir files (Err status) → IsRefusal status
-IsRefusal-list dir files status h = by_result (list_result dir h.found) status (list_so dir h.found) h.is
+IsRefusal-list dir files status h = list_by files (dataset_or_refusal dir h.found) status (dataset_so dir h.found) h.lists
 
 -- ---- requests for indexes
 

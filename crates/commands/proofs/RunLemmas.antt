@@ -108,7 +108,7 @@ unfolding IsQuestion
 no_effects (Loads load) input w h = absurd h
 no_effects (Counts dir query) input w h = answer_none (counted (asked_of dir query (found_in w dir)) (content_at w dir))
 no_effects (Builds dir text list) input w h = absurd h
-no_effects (Lists dir) input w h = listed_none (list_result dir (found_in w dir))
+no_effects (Lists dir) input w h = listed_none (list_result dir (found_in w dir) (content_at w dir))
 no_effects Unknown input w h = refl
 
 pub question_takes : (command : Command) → IsQuestion command → takes_input command ≡ false

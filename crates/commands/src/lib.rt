@@ -61,8 +61,8 @@ pub fn run_command<I: Source, S: Store, K: Sink, L: Ledger>(
     ensures refused { is_fault result ≡ false → result ≢ Status.Done
         → KeepsRefused (command_of asked.now) (S.files store.old) (S.files store.new) }
 
-    // Each added read is of a file of that command.
-    ensures reads { AddsOnly (IsLookOf (command_of asked.now)) (S.reads store.old) (S.reads store.new) }
+    // Each added read is of a file of that command, as it finds the files.
+    ensures reads { AddsOnly (IsLookOf (command_of asked.now) (S.files store.old)) (S.reads store.old) (S.reads store.new) }
 
     // Each status has its cause, and what it comes to is printed.
     ensures causes { HasCauseIn (ComesTo (command_of asked.now) (I.left input.old) (S.files store.old)) result }
@@ -101,7 +101,7 @@ fn run_job<I: Source, S: Store, K: Sink, L: Ledger>(
     ensures kept { ChangesAmong (IsOfCommand (command_of (Some job.now))) (S.files store.old) (S.files store.new) }
     ensures refused { is_fault result ≡ false → result ≢ Status.Done
         → KeepsRefused (command_of (Some job.now)) (S.files store.old) (S.files store.new) }
-    ensures reads { AddsOnly (IsLookOf (command_of (Some job.now))) (S.reads store.old) (S.reads store.new) }
+    ensures reads { AddsOnly (IsLookOf (command_of (Some job.now)) (S.files store.old)) (S.reads store.old) (S.reads store.new) }
     ensures causes { HasCauseIn (ComesTo (command_of (Some job.now)) (I.left input.old) (S.files store.old)) result }
     ensures prints { Says (ComesTo (command_of (Some job.now)) (I.left input.old) (S.files store.old)) result
         (K.written out.old) (K.written out.new) }

@@ -6,8 +6,7 @@ ghost use Rattle.fb_outside.specs.Files.{SameFiles};
 ghost use Rattle.fb_outside.specs.Names.{IsPath};
 ghost use Rattle.fb_outside.specs.Reads.{AddsOnly};
 ghost use Rattle.command_words.specs.Valid.{IsValidTask};
-ghost use Rattle.dataset.specs.Opened.{IsTextLook};
-ghost use Rattle.ibis.specs.Looks.{IsCountLook};
+ghost use Rattle.ibis.specs.Looks.{IsCountLook, IsListLook};
 ghost use Rattle.ibis_build.specs.Looks.{IsBuildLook};
 ghost use Rattle.commands.specs.Command.{Counts, Lists, command_of_task};
 ghost use Rattle.commands.specs.Looks.{IsLookOf};
@@ -38,7 +37,7 @@ pub(crate) fn run_task<S: Store, K: Sink, L: Ledger>(
     ensures runs { (left : Option (List ℕ)) → Runs (command_of_task dir.now task.now) left (S.files store.old)
         (K.written out.old) (K.written out.new) result }
     ensures leaves { Leaves (command_of_task dir.now task.now) (S.files store.old) (S.files store.new) result }
-    ensures reads { AddsOnly (IsLookOf (command_of_task dir.now task.now)) (S.reads store.old) (S.reads store.new) }
+    ensures reads { AddsOnly (IsLookOf (command_of_task dir.now task.now) (S.files store.old)) (S.reads store.old) (S.reads store.new) }
     ensures store_cause { HasCause (S.faults store.old) (S.faults store.new) (result ≡ Status.StoreFault) }
     ensures print_cause { HasCause (K.faults out.old) (K.faults out.new) (result ≡ Status.SinkFault) }
 {
@@ -104,13 +103,13 @@ fn run_build<S: Store, K: Sink, L: Ledger>(
     }
 }
 
-/// Prints the lines of a dataset's schema and of its parts.
+/// Prints the lines of a dataset's schema, of its parts and of their indexes.
 fn run_list<S: Store, K: Sink>(alloc: Global, dir: &FileName, store: &mut S, out: &mut K) -> Status
     requires path { IsPath dir.now }
     ensures runs { (left : Option (List ℕ)) → Runs (Lists dir.now) left (S.files store.old)
         (K.written out.old) (K.written out.new) result }
     ensures files { SameFiles (S.files store.old) (S.files store.new) }
-    ensures reads { AddsOnly (IsTextLook dir.now) (S.reads store.old) (S.reads store.new) }
+    ensures reads { AddsOnly (IsListLook (S.files store.old) dir.now) (S.reads store.old) (S.reads store.new) }
     ensures store_cause { HasCause (S.faults store.old) (S.faults store.new) (result ≡ Status.StoreFault) }
     ensures print_cause { HasCause (K.faults out.old) (K.faults out.new) (result ≡ Status.SinkFault) }
 {

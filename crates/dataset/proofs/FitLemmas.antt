@@ -96,11 +96,13 @@ code_fits words few (Word word) =
     let within : unwrap_or (code_in words word) 0 ≤ length words = code_within words word (position (bytes_eq word) words) refl in
     small_fits (unwrap_or (code_in words word) 0) (omega arith)
 
+pub category_words : (cells : List Cell) → length cells ≤ 4194304 → All (λ cell. CellFits cell Category) cells → IsDictionary (dictionary_of cells)
+category_words cells few h = seen_dictionary (filter_map word_of cells) (are_words cells h) (omega (arith, words_few cells))
+
 category_fit : (cells : List Cell) → length cells ≤ 4194304 → All (λ cell. CellFits cell Category) cells
     → All (λ value. ValueFits value Category) (map (code_of (dictionary_of cells)) cells)
 category_fit cells few h =
-    let dictionary : IsDictionary (dictionary_of cells) =
-    seen_dictionary (filter_map word_of cells) (are_words cells h) (omega (arith, words_few cells)) in
+    let dictionary = category_words cells few h in
     All-map (λ value. ValueFits value Category) (code_of (dictionary_of cells)) cells (λ i d less. code_fits (dictionary_of cells) dictionary.few _)
 
 -- ---- all types

@@ -13,3 +13,4 @@ pub mod FileLemmas
 pub mod GrowingLemmas
 pub mod RefusalLemmas
 pub mod AppendLemmas
+pub mod DamageLemmas

@@ -1,23 +1,29 @@
 -- Which files are damaged, and how.
-use Rattle.std.specs.Prelude.{◌≡◌, ◌≢◌, ⊤, ℕ, List, Option, Some, None, Err, take, slice_get}
+use Rattle.std.specs.Prelude.{◌≡◌, ◌≢◌, ⊤, ℕ, Bool, List, Option, Some, None, Result, Ok, Err, IsSome, take, slice_get}
 use Rattle.std.specs.List.{All}
 use Rattle.fb_outside.specs.Files.{Files, file_at}
 use Rattle.fb_outside.specs.declared.outside.Trouble.{Trouble}
 use Rattle.fb_outside.specs.declared.outside.Trouble.TheVariants as trouble
 use Rattle.fb_types.specs.declared.schemas.Column.{Column}
+use Rattle.fb_types.specs.declared.types.ColType.TheVariants.{Category}
 use Rattle.fb_types.specs.Types.{width_of}
 use Rattle.column_file.specs.Opening.{column_in}
+use Rattle.column_file.specs.Values.{width_in}
 use Rattle.column_file.specs.declared.fault.ColFault.{ColFault}
 use Rattle.column_file.specs.declared.fault.ColFault.TheVariants as column
+use Rattle.text_column.specs.OpenedDictionary.{dictionary_of}
+use Rattle.text_column.specs.declared.fault.DicFault.{DicFault}
+use Rattle.text_column.specs.declared.fault.DicFault.TheVariants as dictionary
 use Rattle.part_meta.specs.declared.catalog.Catalog.{Catalog}
+use Rattle.part_meta.specs.declared.names.FileKind.TheVariants as file
 use Rattle.part_meta.specs.declared.part.PartMeta.{PartMeta}
 use Rattle.part_meta.specs.CatalogText.{IsCatalog, catalog_text}
-use Rattle.part_meta.specs.FileNames.{catalog_name, mask_name, part_name, values_name}
+use Rattle.part_meta.specs.FileNames.{catalog_name, file_name, mask_name, part_name, values_name}
 use Rattle.part_meta.specs.PartText.{IsPart, part_text}
 use Rattle.dataset.specs.Opened.{HasCatalog, HasPart, IsTextName}
 use Rattle.dataset.specs.declared.content.Dataset.{Dataset}
 use Rattle.dataset.specs.declared.fault.DamageKind.{DamageKind}
-use Rattle.dataset.specs.declared.fault.DamageKind.TheVariants.{Missing, Text, Length, Mask}
+use Rattle.dataset.specs.declared.fault.DamageKind.TheVariants.{Missing, Text, Length, Mask, Words}
 use Rattle.dataset.specs.declared.fault.OpenFault.{OpenFault}
 use Rattle.dataset.specs.declared.fault.OpenFault.TheVariants.{NoDataset, Damaged, Store, OutOfMemory}
 
@@ -109,7 +115,38 @@ column_damage values mask (column.MaskLength want have) = Some (record { file = 
 column_damage values mask column.Store = None
 column_damage values mask column.OutOfMemory = None
 
--- A part of an opened dataset has a column of this name and of a width, whose files aren't those of a column of its rows.
+-- what the fault of a dictionary says of its file
+abbrev pub dictionary_damage : (words : List ℕ) → DicFault → Option Damage
+dictionary_damage words dictionary.Missing = Some (damage words Missing)
+dictionary_damage words dictionary.Store = None
+dictionary_damage words dictionary.OutOfMemory = None
+dictionary_damage words fault = Some (damage words Words)
+
+-- a category's words
+abbrev pub words_name : List ℕ → ℕ → List ℕ → List ℕ
+words_name dir part name = file_name dir part (Some name) file.Words
+
+-- which rows of a part have a value by the column's values and mask, or the first fault of these files
+abbrev pub rows_at : Files → List ℕ → PartMeta → Column → Result (List Bool) ColFault
+rows_at files dir part column =
+    column_in (width_in column.ty) part.rows (file_at files (values_name dir part.number column.name))
+    (file_at files (mask_name dir part.number column.name))
+
+-- the words in a category's dictionary, or its first fault
+abbrev pub words_at : Files → List ℕ → PartMeta → Column → Result (List (List ℕ)) DicFault
+words_at files dir part column = dictionary_of (file_at files (words_name dir part.number column.name))
+
+-- The first damage among the files of a column of a width: its values and its mask aren't those of a column of the part's rows, or
+-- these are, and a category's dictionary is none.
+pub data IsDamagedAt (files : Files) (dir : List ℕ) (part : PartMeta) (column : Column) (found : Damage) : Type 0 where
+  NoColumn : (fault : ColFault) → rows_at files dir part column ≡ Err fault
+      → column_damage (values_name dir part.number column.name) (mask_name dir part.number column.name) fault ≡ Some found
+      → IsDamagedAt files dir part column found
+  NoDictionary : (mask : List Bool) (fault : DicFault) → rows_at files dir part column ≡ Ok mask → column.ty ≡ Category
+      → words_at files dir part column ≡ Err fault
+      → dictionary_damage (words_name dir part.number column.name) fault ≡ Some found → IsDamagedAt files dir part column found
+
+-- A part of an opened dataset has a column of this name and of a width, one of whose files is damaged.
 pub record IsColumnDamaged (files : Files) (dataset : Dataset) (name : List ℕ) (found : Damage) : Type 0 where
   pub part : PartMeta
   pub place : ℕ
@@ -118,9 +155,5 @@ pub record IsColumnDamaged (files : Files) (dataset : Dataset) (name : List ℕ)
   pub col : ℕ
   pub in_schema : slice_get dataset.schema col ≡ Some column
   pub named : column.name ≡ name
-  pub width : ℕ
-  pub is_width : width_of column.ty ≡ Some width
-  pub fault : ColFault
-  pub is : column_in width part.rows (file_at files (values_name dataset.dir part.number name))
-      (file_at files (mask_name dataset.dir part.number name)) ≡ Err fault
-  pub told : column_damage (values_name dataset.dir part.number name) (mask_name dataset.dir part.number name) fault ≡ Some found
+  pub width : IsSome (width_of column.ty)
+  pub first : IsDamagedAt files dataset.dir part column found

@@ -3,6 +3,7 @@ pub mod Damage
 pub mod Appended
 pub mod InWorld
 pub mod PartColumns
+pub mod PartIndexes
 pub mod Looks
 pub mod Found
 pub mod Loads

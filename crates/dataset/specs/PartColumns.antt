@@ -5,11 +5,13 @@ use Rattle.fb_types.specs.declared.schemas.Column.{Column}
 use Rattle.column_file.specs.declared.column.ColumnRef.{ColumnRef}
 use Rattle.column_file.specs.declared.fault.ColFault.{ColFault}
 use Rattle.column_file.specs.declared.fault.ColFault.TheVariants as column
-use Rattle.column_file.specs.Opening.{column_in}
-use Rattle.column_file.specs.Values.{width_in}
+use Rattle.text_column.specs.DictionaryFile.{dictionary_bytes}
+use Rattle.text_column.specs.Words.{IsDictionary}
+use Rattle.text_column.specs.declared.fault.DicFault.{DicFault}
+use Rattle.text_column.specs.declared.fault.DicFault.TheVariants as dictionary
 use Rattle.part_meta.specs.declared.part.PartMeta.{PartMeta}
 use Rattle.part_meta.specs.FileNames.{mask_name, values_name}
-use Rattle.dataset.specs.Damage.{Damage, column_damage}
+use Rattle.dataset.specs.Damage.{Damage, column_damage, dictionary_damage, rows_at, words_at, words_name}
 use Rattle.dataset.specs.declared.content.Dataset.{Dataset}
 use Rattle.dataset.specs.declared.fault.PartFault.{PartFault}
 use Rattle.dataset.specs.declared.fault.PartFault.TheVariants.{Damaged, Store, OutOfMemory}
@@ -30,6 +32,15 @@ stop_of fault = OutOfMemory
 abbrev pub part_fault : (values mask : List ℕ) → ColFault → PartFault
 part_fault values mask fault = damage_or (column_damage values mask fault) (stop_of fault)
 
+-- what stopped the reading of a dictionary in which no damage was found
+abbrev pub stop_of_words : DicFault → PartFault
+stop_of_words dictionary.Store = Store
+stop_of_words fault = OutOfMemory
+
+-- what a fault of a dictionary in this file is answered by
+abbrev pub words_fault : (words : List ℕ) → DicFault → PartFault
+words_fault words fault = damage_or (dictionary_damage words fault) (stop_of_words fault)
+
 -- ---- the files of a part's column
 
 abbrev pub values_file : Dataset → PartMeta → Column → List ℕ
@@ -38,10 +49,17 @@ values_file dataset part column = values_name dataset.dir part.number column.nam
 abbrev pub mask_file : Dataset → PartMeta → Column → List ℕ
 mask_file dataset part column = mask_name dataset.dir part.number column.name
 
+abbrev pub words_file : Dataset → PartMeta → Column → List ℕ
+words_file dataset part column = words_name dataset.dir part.number column.name
+
+-- the dictionary of a column in the part has these words
+pub record HasWords (files : Files) (dir : List ℕ) (number : ℕ) (column : Column) (words : List (List ℕ)) : Type 0 where
+  pub dictionary : IsDictionary words
+  pub there : file_at files (words_name dir number column.name) ≡ Some (dictionary_bytes words)
+
 -- which rows have a value, by these files, or what is wrong with them
 abbrev pub column_at : Files → Dataset → PartMeta → Column → Result (List Bool) ColFault
-column_at files dataset part column =
-    column_in (width_in column.ty) part.rows (file_at files (values_file dataset part column)) (file_at files (mask_file dataset part column))
+column_at files dataset part column = rows_at files dataset.dir part column
 
 -- what was opened is this column of the part
 pub record IsOpened (dataset : Dataset) (part : PartMeta) (column : Column) (opened : ColumnRef) : Type 0 where
@@ -59,6 +77,15 @@ OpensColumn files dataset part column (Err (Damaged file kind want have)) =
     ≡ Some (record { file = file; kind = kind; want = want; have = have }))
 OpensColumn files dataset part column (Err Store) = ⊤
 OpensColumn files dataset part column (Err OutOfMemory) = ⊤
+
+-- The file is that of the words that were opened, or is damaged as was answered.
+abbrev pub OpensDictionary : Files → Dataset → PartMeta → Column → Result (List (List ℕ)) PartFault → Type 0
+OpensDictionary files dataset part column (Ok words) = words_at files dataset.dir part column ≡ Ok words
+OpensDictionary files dataset part column (Err (Damaged file kind want have)) =
+    (fault : DicFault) × (words_at files dataset.dir part column ≡ Err fault)
+    × (dictionary_damage (words_file dataset part column) fault ≡ Some (record { file = file; kind = kind; want = want; have = have }))
+OpensDictionary files dataset part column (Err Store) = ⊤
+OpensDictionary files dataset part column (Err OutOfMemory) = ⊤
 
 -- a damage that is answered meets P
 abbrev pub IfDamaged : PartFault → (Damage → Type 0) → Type 0

@@ -18,6 +18,12 @@ pub enum DamageKind {
     Length,
     /// It is no mask of its rows.
     Mask,
+    /// They aren't starts of texts of its rows.
+    Starts,
+    /// It is no dictionary.
+    Words,
+    /// It is no index of its rows.
+    Index,
 }
 
 /// Why a dataset isn't opened: the first that holds, of the catalog and then of each part in order.

@@ -4,15 +4,18 @@ ghost use Rattle.std.specs.Prelude.{◌≡◌, ℕ, List, None, Some, IsSome, le
 ghost use Rattle.fb_outside.specs.Files.{Files, file_at};
 ghost use Rattle.fb_outside.specs.Names.{IsPath};
 ghost use Rattle.fb_types.specs.declared.schemas.Column.{Column};
+ghost use Rattle.fb_types.specs.declared.types.ColType.TheVariants.{Category};
 ghost use Rattle.fb_types.specs.Types.{width_of};
+ghost use Rattle.part_meta.specs.declared.part.PartMeta.{PartMeta};
 ghost use Rattle.part_meta.specs.FileNames.{catalog_name};
-ghost use Rattle.world.specs.Cells.{column_cells};
+ghost use Rattle.world.specs.Cells.{column_cells, dictionary_of};
 ghost use Rattle.world.specs.Stands.{Stands};
 ghost use Rattle.world.specs.World.{Content, Partition, World, content_at};
-ghost use Rattle.dataset.specs.Damage.{Damage, IsColumnDamaged, IsFirstDamaged};
+ghost use Rattle.dataset.specs.Damage.{Damage, IsColumnDamaged, IsDamagedAt, IsFirstDamaged};
 ghost use Rattle.dataset.specs.Found.{Found, IsFound, dataset_in, found_in};
 ghost use Rattle.dataset.specs.InWorld.{HasNumbers, IsColumnOf, IsDatasetOf};
 ghost use Rattle.dataset.specs.Opened.{OpensAs};
+ghost use Rattle.dataset.specs.PartColumns.{HasWords};
 
 use crate::content::Dataset;
 
@@ -47,9 +50,18 @@ pub fn the_datasets_of_a_world()
         → IsPath dir → OpensAs files dir dataset → IsColumnDamaged files dataset name found → ⊥ }
 {}
 
-/// Where the files stand for a world, those of a column of numbers are what its cells say.
+/// Where the files stand for a world, those of a column of numbers are what its cells say, and so is a category's dictionary.
 pub fn the_columns_of_a_world()
-    ensures { (files : Files) (world : World) (dir : List ℕ) (part : Partition) (col : ℕ) (column : Column) → Stands files world
+    ensures numbers { (files : Files) (world : World) (dir : List ℕ) (part : Partition) (col : ℕ) (column : Column) → Stands files world
         → IsColumnOf world dir part col column → IsSome (width_of column.ty)
         → HasNumbers files dir part.number column (column_cells col part.records) }
+    ensures words { (files : Files) (world : World) (dir : List ℕ) (part : Partition) (col : ℕ) (column : Column) → Stands files world
+        → IsColumnOf world dir part col column → column.ty ≡ Category
+        → HasWords files dir part.number column (dictionary_of (column_cells col part.records)) }
+{}
+
+/// The first damage among the files of a column is one alone.
+pub fn one_damage()
+    ensures { (files : Files) (dir : List ℕ) (part : PartMeta) (column : Column) (a b : Damage)
+        → IsDamagedAt files dir part column a → IsDamagedAt files dir part column b → a ≡ b }
 {}

@@ -1,10 +1,13 @@
 ghost use Rattle.fb_outside.specs.Names.{IsPath};
 
-use crate::{DamageKind, Dataset, OpenFault, PartFault, open_dataset, open_part_column};
+use crate::{
+    DamageKind, Dataset, OpenFault, PartFault, open_dataset, open_part_column, open_part_dictionary,
+};
 use column_file::ColumnRef;
 use fb_outside::{FailAt, FileName, MemStore, ReadNote, Store};
 use std::process::Abort;
 use std::test::Fail;
+use text_column::Dictionary;
 
 const CATALOG_FILE: &str = "D/-catalog.txt";
 
@@ -15,6 +18,8 @@ const FILE_2: &str = "D/p0002/-part.txt";
 const VALUES: &str = "D/p0000/a";
 
 const MASK: &str = "D/p0000/a.msk";
+
+const WORDS: &str = "D/p0000/b.dic";
 
 const CATALOG: &[u8] = b"fastbit catalog 1\nschema a:int,b:category\nnext 3\npart 0\npart 2\n";
 
@@ -233,6 +238,62 @@ fn damaged_columns_are_told(rt: HostRuntime) -> Result<(), Fail> {
     check_column(&rt, &[values, cut_mask], MASK, (kind, 0, 0));
     check_column(&rt, &[values, long_mask], MASK, (kind, 0, 0));
     check_column(&rt, &[values, three], MASK, (kind, 2, 3));
+    Ok(())
+}
+
+/// Opens the first part's dictionary, which has these bytes, or none.
+fn first_words<R: Abort + AllocGlobal>(
+    rt: &R,
+    words: Option<&[u8]>,
+) -> Result<Dictionary, PartFault> {
+    let mut store = store_of(
+        rt,
+        &[(CATALOG_FILE, CATALOG), (FILE_0, PART_0), (FILE_2, PART_2)],
+        &[],
+    );
+    if let Some(words) = words {
+        assert!(rt; store.put(named(rt, WORDS).as_str(), words).is_ok());
+    }
+    let Ok(dataset) = open_dataset(rt.alloc(), &mut store, &path(rt)) else {
+        rt.panic("no dataset")
+    };
+    let (Some(part), Some(column)) = (
+        dataset.parts.as_slice().first(),
+        dataset.schema.columns().get(1),
+    ) else {
+        rt.panic("no column")
+    };
+    assert!(rt; dataset.dir.is_path() && part.number < 4096);
+    open_part_dictionary(rt.alloc(), &mut store, &dataset, part, column)
+}
+
+/// The dictionary is damaged so.
+fn check_words<R: Abort + AllocGlobal>(rt: &R, words: Option<&[u8]>, found: DamageKind) {
+    match first_words(rt, words) {
+        Err(
+            PartFault::Damaged {
+                file,
+                kind,
+                want,
+                have,
+            },
+        ) => {
+            assert!(rt; file.as_str() == WORDS && kind == found);
+            assert!(rt; want == 0 && have == 0);
+        }
+        _ => rt.panic("another answer"),
+    }
+}
+
+#[test]
+fn dictionaries_are_opened(rt: HostRuntime) -> Result<(), Fail> {
+    match first_words(&rt, Some(b"\x02\0\0\0\x01\0x\x03\0a,b")) {
+        Ok(words) => assert!(rt; words.len() == 2 && words.code_of(b"a,b") == Some(2)),
+        Err(_) => rt.panic("no dictionary"),
+    }
+    check_words(&rt, None, DamageKind::Missing);
+    check_words(&rt, Some(b"\x01\0\0\0\x01\0"), DamageKind::Words);
+    check_words(&rt, Some(b"\x01\0\0\0\0\0"), DamageKind::Words);
     Ok(())
 }
 

@@ -139,6 +139,11 @@ module _ (left : Option (List ℕ)) (old new : Option Files) (before now : Optio
   unread_by None h = skip_unread status h.ends
   unread_by (Some command) h = h.unread
 
+-- only files of its command change
+pub line_keeps : (line : List ℕ) (left : Option (List ℕ)) (old new : Option Files) (before now : Option (List ℕ)) (status : Status)
+    → LineRuns line left old new before now status → ChangesAmong (IsOfLineBy (line_command line)) old new
+line_keeps line left old new before now status runs = keeps_by left old new before now status (line_command line) runs
+
 -- ---- all lines
 
 lines_done : (lines : List (List ℕ)) (w : World) → (lines_outcome lines w).status ≡ Done

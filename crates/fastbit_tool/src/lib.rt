@@ -61,9 +61,10 @@ pub fn run<I: Source, S: Store, K: Sink, L: Ledger>(
     ensures refused { is_fault result ≡ false → result ≢ Status.Done
         → AskedKeeps (asked_of (asked_by words.now)) (S.files store.old) (S.files store.new) }
 
-    // Each added read is of a file of the command, by a session line by line.
+    // Each added read is of a file of the command as it finds the files, by a session line by line.
     ensures reads { ForSomeInput (I.left input.old)
-        (λ bytes. AddsReads (S.reads store.old) (S.reads store.new) (AskedRead (asked_of (asked_by words.now)) bytes)) }
+        (λ bytes. AddsReads (S.reads store.old) (S.reads store.new)
+        (AskedRead (asked_of (asked_by words.now)) (S.files store.old) (S.files store.new) bytes)) }
 
     // Each status has its cause, and what it comes to is printed, by a session line by line.
     ensures causes { HasCauseIn (AskedComesTo (asked_of (asked_by words.now)) (I.left input.old) (S.files store.old)) result }
@@ -92,5 +93,7 @@ fn is_session(asked: &Option<Job>) -> bool
     matches!(asked, Some(Job::Session))
 }
 
+#[cfg(test)]
+mod listing_tests;
 #[cfg(test)]
 mod tests;

@@ -56,9 +56,9 @@ pub fn session<I: Source, S: Store, K: Sink, L: Ledger>(
     ensures causes { HasCauseIn (SessionComesTo (I.left input.old)) result }
     ensures ran { SessionRuns (I.left input.old) (S.files store.old) (S.files store.new) (K.written out.old) (K.written out.new) result }
 
-    // Each line reads files of its command alone.
+    // Each line reads files of its command alone, as it finds them.
     ensures reads { ForSomeInput (I.left input.old)
-        (λ bytes. AddsReads (S.reads store.old) (S.reads store.new) (LinesRead (lines_of bytes))) }
+        (λ bytes. AddsReads (S.reads store.old) (S.reads store.new) (LinesRead (lines_of bytes) (S.files store.old) (S.files store.new))) }
 
     // A failure of the outside is told, as such and only then.
     ensures read_cause { HasCause (I.faults input.old) (I.faults input.new) (result ≡ Status.ReadFault) }
@@ -77,7 +77,7 @@ fn run_session<I: Source, S: Store, K: Sink, L: Ledger>(
 ) -> Status
     ensures ran { SessionRuns (I.left input.old) (S.files store.old) (S.files store.new) (K.written out.old) (K.written out.new) result }
     ensures reads { ForSomeInput (I.left input.old)
-        (λ bytes. AddsReads (S.reads store.old) (S.reads store.new) (LinesRead (lines_of bytes))) }
+        (λ bytes. AddsReads (S.reads store.old) (S.reads store.new) (LinesRead (lines_of bytes) (S.files store.old) (S.files store.new))) }
     ensures end { result ≡ Status.Done → IsAtEnd (I.left input.new) }
     ensures read_cause { HasCause (I.faults input.old) (I.faults input.new) (result ≡ Status.ReadFault) }
     ensures store_cause { HasCause (S.faults store.old) (S.faults store.new) (result ≡ Status.StoreFault) }
@@ -115,7 +115,7 @@ fn run_lines<I: Source, S: Store, K: Sink, L: Ledger>(
 ) -> Status
     ensures runs { LinesRun (lines_of text.now) (I.left input.old) (S.files store.old) (S.files store.new)
         (K.written out.old) (K.written out.new) result }
-    ensures reads { AddsReads (S.reads store.old) (S.reads store.new) (LinesRead (lines_of text.now)) }
+    ensures reads { AddsReads (S.reads store.old) (S.reads store.new) (LinesRead (lines_of text.now) (S.files store.old) (S.files store.new)) }
     ensures untouched { (I.left input.new ≡ I.left input.old) × (I.faults input.new ≡ I.faults input.old) }
     ensures store_cause { HasCause (S.faults store.old) (S.faults store.new) (result ≡ Status.StoreFault) }
     ensures print_cause { HasCause (K.faults out.old) (K.faults out.new) (result ≡ Status.SinkFault) }
@@ -171,7 +171,7 @@ fn run_line<I: Source, S: Store, K: Sink, L: Ledger>(
 ) -> Status
     ensures runs { LineRuns line.now (I.left input.old) (S.files store.old) (S.files store.new)
         (K.written out.old) (K.written out.new) result }
-    ensures reads { AddsOnly (IsLineLook line.now) (S.reads store.old) (S.reads store.new) }
+    ensures reads { AddsOnly (IsLineLook line.now (S.files store.old)) (S.reads store.old) (S.reads store.new) }
     ensures untouched { (I.left input.new ≡ I.left input.old) × (I.faults input.new ≡ I.faults input.old) }
     ensures store_cause { HasCause (S.faults store.old) (S.faults store.new) (result ≡ Status.StoreFault) }
     ensures print_cause { HasCause (K.faults out.old) (K.faults out.new) (result ≡ Status.SinkFault) }
@@ -222,7 +222,7 @@ fn run_asked<I: Source, S: Store, K: Sink, L: Ledger>(
     requires allowed { allowed asked ≡ asked }
     ensures runs { CommandRuns (command_of asked) (I.left input.old) (S.files store.old) (S.files store.new)
         (K.written out.old) (K.written out.new) result }
-    ensures reads { AddsOnly (IsLookOf (command_of asked)) (S.reads store.old) (S.reads store.new) }
+    ensures reads { AddsOnly (IsLookOf (command_of asked) (S.files store.old)) (S.reads store.old) (S.reads store.new) }
     ensures untouched { (I.left input.new ≡ I.left input.old) × (I.faults input.new ≡ I.faults input.old) }
     ensures store_cause { HasCause (S.faults store.old) (S.faults store.new) (result ≡ Status.StoreFault) }
     ensures print_cause { HasCause (K.faults out.old) (K.faults out.new) (result ≡ Status.SinkFault) }

@@ -85,7 +85,7 @@ fn make_case<'a>(
 }
 
 /// Runs a load.
-fn expect_load<R: Abort + AllocGlobal>(
+pub(crate) fn expect_load<R: Abort + AllocGlobal>(
     rt: &R,
     blank: Blank,
     store: &mut MemStore,
@@ -127,7 +127,7 @@ fn expect_file<R: Abort>(rt: &R, store: &MemStore, name: &str, bytes: &[u8]) {
 }
 
 /// Puts a file.
-fn keep<R: Abort + AllocGlobal>(
+pub(crate) fn keep<R: Abort + AllocGlobal>(
     rt: &R,
     store: &mut MemStore,
     name: &str,
@@ -140,7 +140,7 @@ fn keep<R: Abort + AllocGlobal>(
     Ok(())
 }
 
-const LOAD: &[&str] = &["ardea", "-d", "D", "-m", "a:int"];
+pub(crate) const LOAD: &[&str] = &["ardea", "-d", "D", "-m", "a:int"];
 
 const LOAD_TWO: &[&str] = &["ardea", "-d", "V", "-m", "a:int,b:short"];
 
@@ -369,7 +369,7 @@ fn refuses_words_schemas_and_queries(rt: HostRuntime) -> Result<(), Fail> {
 }
 
 /// Runs a command without input.
-fn expect_words<R: Abort + AllocGlobal>(
+pub(crate) fn expect_words<R: Abort + AllocGlobal>(
     rt: &R,
     blank: Blank,
     store: &mut MemStore,

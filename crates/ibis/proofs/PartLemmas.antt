@@ -1,5 +1,5 @@
 -- The rows of a part that are counted are its cells, and a fault of its files is a damage of the dataset.
-use Rattle.std.proofs.Common.{inl, inr, ◌≡◌, ◌≢◌, ◌+◌, ◌*◌, ◌<◌, ◌≤◌, ℕ, zero, suc, ℤ, Bool, true, false, eqb, if◌then◌else◌, List, [], ◌∷◌, ◌++◌, length, take, map, get_or, Option, Some, None, IfSome, IsSome, Result, Ok, Err, refl, sym, ap, subst, ◌∙◌, arith}
+use Rattle.std.proofs.Common.{inl, inr, ◌≡◌, ◌+◌, ◌*◌, ◌<◌, ◌≤◌, ℕ, zero, suc, ℤ, Bool, true, false, eqb, List, [], ◌∷◌, ◌++◌, length, take, map, get_or, Option, Some, None, IfSome, IsSome, Result, Ok, Err, refl, sym, ap, subst, ◌∙◌, arith}
 use Rattle.std.specs.List.{All, flat_map, slice_get}
 use Rattle.std.specs.Prelude.{IfErr, IfOk, IsErrOf, OnErr}
 use Rattle.std.proofs.lemmas.Bool.{eqb-true}
@@ -15,7 +15,7 @@ use Rattle.fb_types.specs.Types.{ends_of}
 use Rattle.column_file.specs.declared.column.ColumnRef.{ColumnRef}
 use Rattle.column_file.specs.declared.fault.ColFault.{ColFault}
 use Rattle.column_file.specs.declared.fault.ColFault.TheVariants as column_
-use Rattle.column_file.specs.Opening.{column_in, mask_in}
+use Rattle.column_file.specs.Opening.{column_in}
 use Rattle.column_file.specs.Values.{ValueFits, values_bytes, width_in}
 use Rattle.part_meta.specs.declared.part.PartMeta.{PartMeta}
 use Rattle.world.specs.PartFiles.{part_data}
@@ -25,7 +25,7 @@ use Rattle.dataset.specs.Damage.{IsColumnDamaged}
 use Rattle.world.specs.Cells.{stored_numbers}
 use Rattle.dataset.specs.Opened.{IsDataset, IsPartOf, IsTextLook}
 use Rattle.std.proofs.lemmas.Option.{slice_get_read}
-use Rattle.dataset.specs.PartColumns.{IfDamaged, IsOpened, OpensColumn, column_at, mask_file, values_file}
+use Rattle.dataset.specs.PartColumns.{IfDamaged, IsOpened, column_at, mask_file, values_file}
 use Rattle.dataset.specs.declared.content.Dataset.{Dataset}
 use Rattle.dataset.specs.declared.fault.DamageKind.TheVariants.{Length}
 use Rattle.dataset.specs.declared.fault.PartFault.{PartFault}
@@ -33,13 +33,12 @@ use Rattle.dataset.specs.declared.fault.PartFault.TheVariants as part_
 use Rattle.world.proofs.PlaceLemmas.{All-at}
 use Rattle.dataset.proofs.ListLemmas.{map-at}
 use Rattle.statuses.specs.declared.stop.Unanswered.TheVariants.{Refused}
-use Rattle.ibis.specs.declared.rows.RowsFault.{RowsFault}
 use Rattle.ibis.specs.declared.rows.RowsFault.TheVariants.{Short, Store}
 use Rattle.statuses.specs.Opening.{damaged_status}
 use Rattle.ibis.specs.declared.query.Below.{Below}
-use Rattle.ibis.specs.Looks.{IsAskedLook, IsColumnLook, IsCountLook}
+use Rattle.ibis.specs.Looks.{IsColumnLook, IsCountLook}
 use Rattle.ibis.specs.Query.{read_query}
-use Rattle.ibis.specs.Rows.{HasCells, HasColumn, HasParts, HasValues, cells_in_parts, passing}
+use Rattle.ibis.specs.Rows.{HasCells, HasColumn, HasParts, cells_in_parts, passing}
 use Rattle.ibis.specs.Steps.{StopsIn, stop_of_part}
 use Rattle.ibis.proofs.RowLemmas.{passing-append}
 

@@ -1,6 +1,6 @@
 -- What a question and a listing come to, and what that is where the files stand for a world.
-use Rattle.std.proofs.Common.{◌≡◌, ◌+◌, ◌<◌, ℕ, ℤ, Bool, true, false, cond, List, [], ◌∷◌, ◌++◌, length, map, get_or, Option, Some, None, IfSome, IsSome, Result, Ok, Err, refl, sym, ap, subst, ◌∙◌, arith}
-use Rattle.std.specs.List.{All, count_by, filter, flat_map, slice_get}
+use Rattle.std.proofs.Common.{◌≡◌, ◌+◌, ℕ, Bool, true, false, cond, List, [], ◌∷◌, ◌++◌, length, get_or, Option, Some, None, IfSome, IsSome, Result, Ok, Err, refl, sym, ap, subst, ◌∙◌, arith}
+use Rattle.std.specs.List.{count_by, filter, flat_map, slice_get}
 use Rattle.std.specs.Prelude.{IfOk, slice_index_or}
 use Rattle.std.proofs.lemmas.List.Sums.{length-filter, sum_by-append}
 use Rattle.std.proofs.lemmas.Option.{slice_get-get_or}
@@ -21,11 +21,10 @@ use Rattle.where_grammar.specs.Holds.{compares, holds, number_passes}
 use Rattle.answers.specs.Answers.{Answers}
 use Rattle.where_grammar.specs.Language.{refusal}
 use Rattle.where_grammar.proofs.Parts.{holds-one}
-use Rattle.world.specs.PartFiles.{part_data}
 use Rattle.world.specs.Cells.{column_cells}
-use Rattle.world.specs.Stands.{Stands, StandsFor}
+use Rattle.world.specs.Stands.{Stands}
 use Rattle.world.specs.World.{Content, Partition, World, content_at, records_of}
-use Rattle.dataset.specs.Damage.{Damage, IsColumnDamaged}
+use Rattle.dataset.specs.Damage.{IsColumnDamaged}
 use Rattle.dataset.specs.Found.{Absent, Broken, Found, IsFound, There, dataset_in, found_by, found_in}
 use Rattle.dataset.specs.declared.content.Dataset.{Dataset}
 use Rattle.dataset.proofs.ColumnLemmas.{columns_undamaged, has_numbers}
@@ -35,13 +34,11 @@ use Rattle.statuses.specs.declared.Status.{Status}
 use Rattle.statuses.specs.declared.Status.TheVariants.{BadQuery}
 use Rattle.statuses.specs.declared.stop.Unanswered.{Unanswered}
 use Rattle.statuses.specs.declared.stop.Unanswered.TheVariants.{Refused, StoreFault, OutOfMemory}
-use Rattle.statuses.specs.Opening.{Finds, damaged_status, dataset_or_refusal}
-use Rattle.statuses.specs.Outcome.{◌>>=◌}
+use Rattle.statuses.specs.Opening.{Finds, dataset_or_refusal}
 use Rattle.ibis.specs.declared.query.Below.{Below}
-use Rattle.ibis.specs.Count.{CountComes, CountGives, CountsBy, CountsRecords, IsCountIn, IsDamagedIn, asked_of, counted, hits}
-use Rattle.ibis.specs.Listing.{ListComes, list_result}
+use Rattle.ibis.specs.Count.{CountComes, CountGives, CountsBy, CountsRecords, IsCountIn, asked_of, counted}
 use Rattle.ibis.specs.Query.{clause_of, read_query, resolved}
-use Rattle.ibis.specs.Rows.{HasColumn, HasParts, cells_in_parts, passing}
+use Rattle.ibis.specs.Rows.{HasParts, cells_in_parts, passing}
 use Rattle.ibis.specs.Steps.{IsAsked, StopsIn, stop_of_text}
 use Rattle.ibis.proofs.RowLemmas.{passing-append, passing-cons}
 
@@ -244,9 +241,6 @@ module _ (m : Files) (world : World) (dir : List ℕ) (stands : Stands m world) 
       → counted (asked_of dir query (found_in world dir)) (content_at world dir) ≡ Err status
   count_refused query status h =
       ap (λ (r : Result Below Status). counted r (content_at world dir)) (refused_read query status (read_query query) refl h)
-
-  pub list_is : (result : Result (List ℕ) Status) → ListComes dir (Some m) result → list_result dir (found_in world dir) ≡ result
-  list_is result h = ap (list_result dir) (sym (found_is m world dir h.found stands path h.told)) ∙ h.is
 
 -- the count of a question is that of the world's records
 pub counts_records : (dir query text : List ℕ) (files after : Option Files) (below : Below) (dataset : Dataset) (column : Column) (result : Result ℕ Unanswered)

@@ -1,6 +1,8 @@
 pub mod Query
 pub mod Count
+pub mod Indexes
 pub mod Listing
+pub mod ListSteps
 pub mod Steps
 pub mod Rows
 pub mod Runs

@@ -1,5 +1,5 @@
 -- The numbers of a column that are less than a limit, and the cells that its files have.
-use Rattle.std.specs.Prelude.{◌≡◌, ℕ, ℤ, Bool, List, Option, Some, map, length, count_by, int_lt}
+use Rattle.std.specs.Prelude.{◌≡◌, ℕ, ℤ, List, Option, Some, map, length, count_by}
 use Rattle.std.specs.List.{All, flat_map}
 use Rattle.fb_outside.specs.Files.{Files, told_at}
 use Rattle.fb_types.specs.declared.cells.Cell.{Cell}

@@ -13,7 +13,6 @@ use Rattle.dataset.specs.Damage.{Damage, IsColumnDamaged}
 use Rattle.dataset.specs.declared.content.Dataset.{Dataset}
 use Rattle.dataset.specs.declared.fault.PartFault.{PartFault}
 use Rattle.dataset.specs.declared.fault.PartFault.TheVariants as part
-use Rattle.statuses.specs.declared.Status.{Status}
 use Rattle.statuses.specs.declared.Status.TheVariants.{BadQuery}
 use Rattle.statuses.specs.Opening.{damaged_status}
 use Rattle.statuses.specs.declared.stop.Unanswered.{Unanswered}

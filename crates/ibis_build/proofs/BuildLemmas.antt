@@ -33,7 +33,7 @@ use Rattle.statuses.specs.declared.stop.Unanswered.TheVariants.{Refused, StoreFa
 use Rattle.statuses.specs.Opening.{Finds, Opened, dataset_or_refusal}
 use Rattle.statuses.specs.Outcome.{◌>>=◌, Outcome}
 use Rattle.ibis_build.specs.Builds.{Asked, Task, asked_of, build_outcome, effects_of, outcome_by, outcome_of_tasks, part_tasks, spec_or_refusal, task_in, tasks_in}
-use Rattle.ibis_build.specs.Causes.{BuildChanges, BuildComes, BuildGives, BuildKeeps, BuildPuts, BuildsBy, HasIndexes, IsIndexName, IsRefused, RefusesBy, StopsIn}
+use Rattle.ibis_build.specs.Causes.{AreAllSound, BuildChanges, BuildComes, BuildGives, BuildKeeps, BuildPuts, BuildsBy, HasIndexes, IsIndexName, IsRefused, RefusesBy, StopsIn}
 use Rattle.ibis_build.specs.Columns.{chosen_columns}
 use Rattle.ibis_build.specs.Leaves.{LeavesBuilt, LeavesTasks, StandsWith}
 use Rattle.ibis_build.specs.Looks.{IsAskedLook, IsBuildLook, IsLookAmong}
@@ -302,8 +302,9 @@ module _ (dir text : List ℕ) (list : Option (List ℕ)) (old : Option Files) (
         builds = subst (λ (r : Result Asked Status). BuildsBy old (There dataset) r result) (sym asks) h;
       }
 
-  pub build-gives : (count : ℕ) → count ≡ length dataset.parts * length cols → BuildGives dir text list old (Ok count)
-  build-gives count e = comes (Ok count) e
+  pub build-gives : (mid : Option Files) (count : ℕ) → mid ≡ old → count ≡ length dataset.parts * length cols → AreAllSound mid dataset cols
+      → BuildGives dir text list old (Ok count)
+  build-gives mid count same e sound = comes (Ok count) (e, subst (λ (o : Option Files). AreAllSound o dataset cols) same sound)
 
   pub build-stops : (mid : Option Files) (stop : Unanswered) → mid ≡ old → StopsIn mid dataset asked stop → BuildGives dir text list old (Err stop)
   build-stops mid (Refused status) same h = comes (Err status) (subst (λ (o : Option Files). IsRefused o dataset asked status) same h)
@@ -328,9 +329,9 @@ module _ (dir text : List ℕ) (list : Option (List ℕ)) (old : Option Files) (
       (AddsOnly-weaken (IsLookAmong dataset cols) (IsBuildLook dir list) mid new
       (λ look w.
       inr (record {
-        name = w.column.name;
+        column = w.column;
         asked = asked-name dataset.schema list cols w.column valid chosen w.among;
-        file = subst (λ (d : List ℕ). IsColumnLook d w.column.name look) at w.file;
+        file = subst (λ (d : List ℕ). IsColumnLook d w.column look) at w.file;
       })) k)
 
   -- what is built is there, of the dataset that the path has

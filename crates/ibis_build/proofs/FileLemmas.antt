@@ -8,16 +8,16 @@ use Rattle.fb_types.specs.declared.schemas.Column.{Column}
 use Rattle.fb_types.specs.Names.{IsColumnName}
 use Rattle.fb_types.specs.Schemas.{IsSchema}
 use Rattle.index_spec.specs.declared.spec.Spec.{Spec}
-use Rattle.column_file.specs.Opening.{column_in}
 use Rattle.part_meta.specs.declared.names.FileKind.{FileKind}
 use Rattle.part_meta.specs.declared.names.FileKind.TheVariants as file
 use Rattle.part_meta.specs.declared.part.PartMeta.{PartMeta}
 use Rattle.part_meta.specs.FileNames.{IsCalled, file_name, index_name, mask_name, values_name}
 use Rattle.part_meta.proofs.FileNameLemmas.{same_file}
 use Rattle.world.proofs.PlaceLemmas.{All-at}
-use Rattle.dataset.specs.Damage.{Damage, IsColumnDamaged}
+use Rattle.dataset.specs.Damage.{Damage, IsColumnDamaged, IsDamagedAt, words_name}
 use Rattle.dataset.specs.Opened.{IsDataset, IsPartOf}
 use Rattle.dataset.specs.declared.content.Dataset.{Dataset}
+use Rattle.dataset.proofs.DamageLemmas.{damage_kept}
 use Rattle.index_build.specs.Build.{HasRows}
 use Rattle.statuses.specs.declared.Status.{Status}
 use Rattle.statuses.specs.declared.stop.Unanswered.{Unanswered}
@@ -54,28 +54,33 @@ module _ (dataset : Dataset) (valid : IsDataset dataset) (cols : List ℕ) where
         → file_at m' (mask_name dataset.dir number name) ≡ file_at m (mask_name dataset.dir number name)
     mask-stays number name few called = stays (Some m) (Some m') h number name file.Mask few called (λ e. cc)
 
+    words-stay : (number : ℕ) (name : List ℕ) → number < 4096 → IsColumnName name
+        → file_at m' (words_name dataset.dir number name) ≡ file_at m (words_name dataset.dir number name)
+    words-stay number name few called = stays (Some m) (Some m') h number name file.Words few called (λ e. cc)
+
     damage-was : (name : List ℕ) (damage : Damage) → IsColumnDamaged m' dataset name damage → IsColumnDamaged m dataset name damage
-    damage-was name damage d =
-        let few = part-low d.place d.part d.listed in
-        let called : IsColumnName name = subst IsColumnName d.named (column-called d.col d.column d.in_schema) in
-        record {
-          part = d.part;
-          place = d.place;
-          listed = d.listed;
-          column = d.column;
-          col = d.col;
-          in_schema = d.in_schema;
-          named = d.named;
-          width = d.width;
-          is_width = d.is_width;
-          fault = d.fault;
-          is = ap (λ (o : Option (List ℕ)). column_in d.width d.part.rows o (file_at m (mask_name dataset.dir d.part.number name)))
-              (sym (values-stay d.part.number name few called))
-              ∙ ap (λ (o : Option (List ℕ)). column_in d.width d.part.rows (file_at m' (values_name dataset.dir d.part.number name)) o)
-              (sym (mask-stays d.part.number name few called))
-              ∙ d.is;
-          told = d.told;
-        }
+    damage-was name damage d = record {
+      part = d.part;
+      place = d.place;
+      listed = d.listed;
+      column = d.column;
+      col = d.col;
+      in_schema = d.in_schema;
+      named = d.named;
+      width = d.width;
+      first =
+          let few = part-low d.place d.part d.listed in
+          let called = column-called d.col d.column d.in_schema in
+          damage_kept m m' dataset.dir d.part d.column damage (values-stay d.part.number d.column.name few called)
+          (mask-stays d.part.number d.column.name few called) (words-stay d.part.number d.column.name few called) d.first;
+    }
+
+    -- a damage that was there is there still
+    pub damage-stays : (part : PartMeta) (column : Column) (damage : Damage) → part.number < 4096 → IsColumnName column.name
+        → IsDamagedAt m dataset.dir part column damage → IsDamagedAt m' dataset.dir part column damage
+    damage-stays part column damage few called d =
+        damage_kept m' m dataset.dir part column damage (sym (values-stay part.number column.name few called))
+        (sym (mask-stays part.number column.name few called)) (sym (words-stay part.number column.name few called)) d
 
     pub rows-stay : (part : PartMeta) (column : Column) (mask : List Bool) (numbers : List ℤ) → part.number < 4096 → IsColumnName column.name
         → HasRows m dataset.dir part column mask numbers → HasRows m' dataset.dir part column mask numbers
@@ -86,12 +91,16 @@ module _ (dataset : Dataset) (valid : IsDataset dataset) (cols : List ℕ) where
           fit = r.fit;
           each = r.each;
           long = r.long;
+          words = λ is.
+              let had = r.words is in
+              (had.0, record { dictionary = had.1.dictionary; there = words-stay part.number column.name few called ∙ had.1.there });
         }
 
     too-many-was : (place : ℕ) (part : PartMeta) (column : Column) (spec : Spec) (number : ℕ) → slice_get dataset.parts place ≡ Some part
         → IsColumnName column.name → HasTooMany m' dataset part column spec number → HasTooMany m dataset part column spec number
     too-many-was place part column spec number listed called t =
-        λ mask numbers r. t mask numbers (rows-stay part column mask numbers (part-low place part listed) called r)
+        let few = part-low place part listed in
+        (λ damage d. t.0 damage (damage-stays part column damage few called d), λ mask numbers r. t.1 mask numbers (rows-stay part column mask numbers few called r))
 
   was : (P Q : Files → Type 0) (old new : Option Files) → ChangesAmong (IsIndexName dataset cols) old new
       → ((m m' : Files) → ChangesAmong (IsIndexName dataset cols) (Some m) (Some m') → P m' → Q m) → IfSome new P → IfSome old Q

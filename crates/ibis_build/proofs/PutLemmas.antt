@@ -16,18 +16,19 @@ use Rattle.part_meta.proofs.FileNameLemmas.{same_file}
 use Rattle.world.specs.IndexFiles.{index_of}
 use Rattle.world.proofs.MapLemmas.{same_or_apart}
 use Rattle.world.proofs.PlaceLemmas.{AllPairs-at, same_place}
+use Rattle.dataset.specs.Damage.{Damage, IsDamagedAt}
 use Rattle.dataset.specs.Opened.{IsDataset}
 use Rattle.dataset.specs.declared.content.Dataset.{Dataset}
-use Rattle.index_build.specs.Build.{AnswersOver, HasRows, LeavesIndex, StopsIn as BuildStops, bin_count}
+use Rattle.index_build.specs.Build.{AnswersOver, HasRows, LeavesIndex, StopsIn as BuildStops, TellsDamage, bin_count}
 use Rattle.index_build.specs.declared.fault.BuildFault.{BuildFault}
 use Rattle.index_build.specs.declared.fault.BuildFault.TheVariants as build
 use Rattle.index_build.specs.declared.writing.Built.{Built}
 use Rattle.statuses.specs.declared.LimitKind.TheVariants.{Bins}
 use Rattle.statuses.specs.declared.Status.TheVariants.{Limit}
 use Rattle.index_spec.specs.declared.spec.Spec.{Spec}
-use Rattle.ibis_build.specs.Causes.{Damages, HasPartIndexes, HasTooMany, IsAmong, IsIndexName, IsPartIndex, Passes, StopsIn, stop_of_build}
+use Rattle.ibis_build.specs.Causes.{AreSound, Damages, HasPartIndexes, HasTooMany, IsAmong, IsIndexName, IsPartIndex, IsSound, Passes, StopsIn, stop_of_build}
 use Rattle.ibis_build.proofs.BuildLemmas.{take-at}
-use Rattle.ibis_build.proofs.FileLemmas.{column-called, name-listed, part-low, rows-stay}
+use Rattle.ibis_build.proofs.FileLemmas.{column-called, damage-stays, name-listed, part-low, rows-stay}
 
 -- a put leaves its bytes
 pub put-there : (old new : Option Files) (m : Files) (name bytes : List ℕ) → old ≡ Some m → new ≡ option_map (λ files. insert files name bytes) old
@@ -188,6 +189,49 @@ module _ (dataset : Dataset) (valid : IsDataset dataset) (spec : Spec) (cols : L
           let is : part ≡ p = cc in
           subst (λ (q : PartMeta). HasPartIndexes old dataset q (record { spec = spec; cols = cols }) new) is here
 
+-- ---- files that aren't damaged
+
+module _ (dataset : Dataset) (valid : IsDataset dataset) (at : ℕ) (part : PartMeta) (listed : slice_get dataset.parts at ≡ Some part) (cols : List ℕ) where
+  -- what isn't damaged once some indexes are built wasn't before
+  sound-was : (old mid : Option Files) (asked : List ℕ) → ChangesAmong (IsIndexName dataset cols) old mid → AreSound mid dataset part asked
+      → AreSound old dataset part asked
+  sound-was old mid asked first one m column told among damage d =
+      let m' = told-files old mid m first.told told in
+      one m'.0 column m'.1 among damage
+      (damage-stays dataset valid cols m m'.0
+      (subst (λ (o : Option Files). ChangesAmong (IsIndexName dataset cols) (Some m) o) m'.1
+      (subst (λ (o : Option Files). ChangesAmong (IsIndexName dataset cols) o mid) told first))
+      part column damage (part-low dataset valid cols at part listed) (column-called dataset valid cols among.col column among.in_schema) d)
+
+  -- one column more
+  pub sound-more : (k col : ℕ) (old mid : Option Files) → slice_get cols k ≡ Some col → ChangesAmong (IsPartIndex dataset part cols) old mid
+      → AreSound old dataset part (take k cols) → AreSound mid dataset part (col ∷ []) → AreSound old dataset part (take (k + 1) cols)
+  sound-more k col old mid there first before one m column told among =
+      by (pushed-at (take k cols) col among.place among.col
+      (ap (λ (cs : List ℕ). slice_get cs among.place) (sym (take-at cols k col there)) ∙ among.asked))
+    where
+      by : (slice_get (take k cols) among.place ≡ Some among.col) ⊎ (among.col ≡ col) → IsSound m dataset part column
+      by (inl earlier) = before m column told (record { place = among.place; col = among.col; asked = earlier; in_schema = among.in_schema })
+      by (inr same) =
+          sound-was old mid (col ∷ []) (ChangesAmong-weaken old mid (λ q h. name-listed dataset cols at part q listed h) first) one m column told
+          (record { place = 0; col = col; asked = refl; in_schema = ap (slice_get dataset.schema) (sym same) ∙ among.in_schema })
+
+-- one part more
+pub sound-parts : (dataset : Dataset) (valid : IsDataset dataset) (cols : List ℕ) (k : ℕ) (part : PartMeta) (old mid : Option Files)
+    → slice_get dataset.parts k ≡ Some part → ChangesAmong (IsIndexName dataset cols) old mid
+    → ((place : ℕ) (p : PartMeta) → place < k → slice_get dataset.parts place ≡ Some p → AreSound old dataset p cols)
+    → AreSound mid dataset part cols
+    → (place : ℕ) (p : PartMeta) → place < k + 1 → slice_get dataset.parts place ≡ Some p → AreSound old dataset p cols
+sound-parts dataset valid cols k part old mid listed first before one place p less at = by (nat_lt place k) refl
+  where
+    by : (b : Bool) → nat_lt place k ≡ b → AreSound old dataset p cols
+    by true e = before place p (grind (arith, nat_tests)) at
+    by false e =
+        let same : place ≡ k = grind (arith, nat_tests) in
+        let both : Some part ≡ Some p = sym listed ∙ ap (slice_get dataset.parts) (sym same) ∙ at in
+        let is : part ≡ p = cc in
+        subst (λ (q : PartMeta). AreSound old dataset q cols) is (sound-was dataset valid k part listed cols old mid cols first one)
+
 -- ---- one build
 
 module _ (dataset : Dataset) (at : ℕ) (part : PartMeta) (listed : slice_get dataset.parts at ≡ Some part) (col : ℕ) (column : Column)
@@ -207,20 +251,32 @@ module _ (dataset : Dataset) (at : ℕ) (part : PartMeta) (listed : slice_get da
       ap (λ (c : Column). told_at new (index_name dataset.dir part.number c.name)) is
       ∙ put-there old new m (index_name dataset.dir part.number column.name) (index_of spec mask numbers) told (leaves m mask numbers told rows).0
 
+  -- what is done has no damaged file
+  pub sound-one : (made : Built) → ((m : Files) (damage : Damage) → old ≡ Some m → IsDamagedAt m dataset.dir part column damage → TellsDamage damage (Ok made))
+      → AreSound old dataset part (col ∷ [])
+  sound-one made tells m other told among damage d =
+      let place : col ≡ among.col = single col among.place among.col among.asked in
+      let both : Some column ≡ Some other = sym there ∙ ap (slice_get dataset.schema) place ∙ among.in_schema in
+      let is : other ≡ column = cc in
+      tells m damage told (subst (λ (c : Column). IsDamagedAt m dataset.dir part c damage) is d)
+
   too-many : (spec : Spec) (bins limit : ℕ) (o : Option Files)
+      → ((m : Files) (damage : Damage) → o ≡ Some m → IsDamagedAt m dataset.dir part column damage
+      → TellsDamage damage (Err (build.TooManyBins bins limit)))
       → ((m : Files) (mask : List Bool) (numbers : List ℤ) → o ≡ Some m → HasRows m dataset.dir part column mask numbers
       → AnswersOver spec.encoding (bin_count spec mask numbers) (Err (build.TooManyBins bins limit)))
       → IfSome o (λ m. HasTooMany m dataset part column spec bins)
-  too-many spec bins limit None f = tt
-  too-many spec bins limit (Some m) f = λ mask numbers has. let a = f m mask numbers refl has in (a.0, a.1)
+  too-many spec bins limit None d f = tt
+  too-many spec bins limit (Some m) d f = (λ damage h. d m damage refl h, λ mask numbers has. let a = f m mask numbers refl has in (a.0, a.1))
 
   pub stop-built : (spec : Spec) (fault : BuildFault) → BuildStops old dataset column.name fault
+      → ((m : Files) (damage : Damage) → old ≡ Some m → IsDamagedAt m dataset.dir part column damage → TellsDamage damage (Err fault))
       → ((m : Files) (mask : List Bool) (numbers : List ℤ) → old ≡ Some m → HasRows m dataset.dir part column mask numbers
       → AnswersOver spec.encoding (bin_count spec mask numbers) (Err fault))
       → StopsIn old dataset (record { spec = spec; cols = col ∷ [] }) (stop_of_build fault)
-  stop-built spec (build.Damaged file kind want have) h f =
+  stop-built spec (build.Damaged file kind want have) h d f =
       Damages column (record { file = file; kind = kind; want = want; have = have }) among-it h refl
-  stop-built spec (build.TooManyBins bins limit) h f =
-      Passes at part column bins listed among-it (too-many spec bins limit old f) (ap (λ (n : ℕ). Limit Bins bins n) h.0)
-  stop-built spec build.Store h f = tt
-  stop-built spec build.OutOfMemory h f = tt
+  stop-built spec (build.TooManyBins bins limit) h d f =
+      Passes at part column bins listed among-it (too-many spec bins limit old d f) (ap (λ (n : ℕ). Limit Bins bins n) h.0)
+  stop-built spec build.Store h d f = tt
+  stop-built spec build.OutOfMemory h d f = tt

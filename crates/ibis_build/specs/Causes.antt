@@ -9,7 +9,7 @@ use Rattle.binning.specs.Encodings.{nested_bins}
 use Rattle.part_meta.specs.declared.part.PartMeta.{PartMeta}
 use Rattle.part_meta.specs.FileNames.{index_name}
 use Rattle.world.specs.IndexFiles.{index_of}
-use Rattle.dataset.specs.Damage.{Damage, IsColumnDamaged}
+use Rattle.dataset.specs.Damage.{Damage, IsColumnDamaged, IsDamagedAt}
 use Rattle.dataset.specs.Found.{Found, Absent, There, Broken, IsFound}
 use Rattle.dataset.specs.declared.content.Dataset.{Dataset}
 use Rattle.index_build.specs.Build.{HasRows, bin_count}
@@ -47,13 +47,17 @@ pub record IsIndexName (dataset : Dataset) (cols : List ℕ) (name : List ℕ) :
 
 -- ---- why an index isn't built
 
+-- no file of the column is damaged in the part
+abbrev pub IsSound : Files → Dataset → PartMeta → Column → Type 0
+IsSound files dataset part column = (damage : Damage) → IsDamagedAt files dataset.dir part column damage → ⊥
+
 -- whatever rows the column has in the part, the encoding doesn't take its bins: they, or their groups, are so many
 abbrev pub HasTooMany : Files → Dataset → PartMeta → Column → Spec → ℕ → Type 0
 HasTooMany files dataset part column spec number =
-    (mask : List Bool) (numbers : List ℤ) → HasRows files dataset.dir part column mask numbers
-    → (bitmap_count spec.encoding (bin_count spec mask numbers) ≡ None) × (number ≡ nested_bins spec.encoding (bin_count spec mask numbers))
+    IsSound files dataset part column × ((mask : List Bool) (numbers : List ℤ) → HasRows files dataset.dir part column mask numbers
+    → (bitmap_count spec.encoding (bin_count spec mask numbers) ≡ None) × (number ≡ nested_bins spec.encoding (bin_count spec mask numbers)))
 
--- a file of one of the columns is damaged in a part, or one of them has too many bins in a part
+-- a file of one of the columns is damaged in a part, or one of them, of which none is, has too many bins in a part
 pub data IsRefused (files : Option Files) (dataset : Dataset) (asked : Asked) (status : Status) : Type 0 where
   Damages : (column : Column) (damage : Damage) → IsAmong dataset.schema asked.cols column
       → IfSome files (λ m. IsColumnDamaged m dataset column.name damage) → status ≡ damaged_status damage
@@ -64,12 +68,23 @@ pub data IsRefused (files : Option Files) (dataset : Dataset) (asked : Asked) (s
 
 -- ---- what a request comes to
 
--- The refusal that the definition has, over what the path has. Else the index of each column in each part is built, or one is refused.
+-- no file of one of these columns is damaged in the part, where the files are told
+abbrev pub AreSound : Option Files → Dataset → PartMeta → (cols : List ℕ) → Type 0
+AreSound files dataset part cols =
+    (m : Files) (column : Column) → files ≡ Some m → IsAmong dataset.schema cols column → IsSound m dataset part column
+
+-- in each part
+abbrev pub AreAllSound : Option Files → Dataset → (cols : List ℕ) → Type 0
+AreAllSound files dataset cols = (place : ℕ) (part : PartMeta) → slice_get dataset.parts place ≡ Some part → AreSound files dataset part cols
+
+-- The refusal that the definition has, over what the path has. Else the index of each column in each part is built, and none of their
+-- files is damaged, or one is refused.
 abbrev pub BuildsBy : Option Files → Found → Result Asked Status → Result ℕ Status → Type 0
 BuildsBy files found (Err status) result = result ≡ Err status
 BuildsBy files Absent (Ok asked) result = ⊥
 BuildsBy files (Broken damage) (Ok asked) result = ⊥
-BuildsBy files (There dataset) (Ok asked) (Ok count) = count ≡ length dataset.parts * length asked.cols
+BuildsBy files (There dataset) (Ok asked) (Ok count) =
+    (count ≡ length dataset.parts * length asked.cols) × AreAllSound files dataset asked.cols
 BuildsBy files (There dataset) (Ok asked) (Err status) = IsRefused files dataset asked status
 
 -- the same of a store, which may not tell its files; what the path has counts for nothing where the specification is refused

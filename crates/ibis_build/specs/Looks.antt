@@ -21,11 +21,11 @@ abbrev pub IsAskedName : (list : Option (List ℕ)) → List ℕ → Type 0
 IsAskedName None name = IsColumnName name
 IsAskedName (Some list) name = IsListed list name
 
--- at the values or the mask of such a column, in a part
+-- at the values or the mask of such a column in a part, or at its dictionary where it is a category
 pub record IsAskedLook (dir : List ℕ) (list : Option (List ℕ)) (look : Look) : Type 0 where
-  pub name : List ℕ
-  pub asked : IsAskedName list name
-  pub file : IsColumnLook dir name look
+  pub column : Column
+  pub asked : IsAskedName list column.name
+  pub file : IsColumnLook dir column look
 
 -- the texts of the dataset, and the columns that are asked for
 abbrev pub IsBuildLook : (dir : List ℕ) → (list : Option (List ℕ)) → Look → Type 0
@@ -36,4 +36,4 @@ IsBuildLook dir list look = IsTextLook dir look ⊎ IsAskedLook dir list look
 pub record IsLookAmong (dataset : Dataset) (cols : List ℕ) (look : Look) : Type 0 where
   pub column : Column
   pub among : IsAmong dataset.schema cols column
-  pub file : IsColumnLook dataset.dir column.name look
+  pub file : IsColumnLook dataset.dir column look

@@ -12,7 +12,7 @@ ghost use Rattle.world.specs.World.{Content, Partition, World, content_at};
 ghost use Rattle.dataset.specs.Found.{dataset_in};
 ghost use Rattle.dataset.specs.Opened.{IsDataset};
 ghost use Rattle.ibis_build.specs.Builds.{build_outcome, part_tasks, spec_or_refusal, tasks_in};
-ghost use Rattle.ibis_build.specs.Causes.{BuildGives, BuildKeeps, BuildPuts, HasIndexes, HasPartIndexes, IsIndexName, IsPartIndex, RefusesBy, StopsIn, stop_of_build};
+ghost use Rattle.ibis_build.specs.Causes.{AreAllSound, AreSound, BuildGives, BuildKeeps, BuildPuts, HasIndexes, HasPartIndexes, IsIndexName, IsPartIndex, RefusesBy, StopsIn, stop_of_build};
 ghost use Rattle.ibis_build.specs.Columns.{can_have_index_at};
 ghost use Rattle.ibis_build.specs.Leaves.{LeavesBuilt, LeavesTasks};
 ghost use Rattle.ibis_build.specs.Looks.{IsBuildLook, IsLookAmong};
@@ -45,7 +45,8 @@ pub fn build_indexes<S: Store, L: Ledger>(
     ensures cause { HasCause (S.faults store.old) (S.faults store.new) (IsErrOf result Unanswered.StoreFault) }
     ensures reads { AddsOnly (IsBuildLook dir.now list.now) (S.reads store.old) (S.reads store.new) }
 
-    // The answer is the definition's, over what the path has, or a damaged or overfull column of those that are asked for.
+    // The answer is the definition's, over what the path has, or a damaged or overfull column of those that are asked for; it is
+    // done only where no file of these is damaged.
     ensures gives { BuildGives dir.now text.now list.now (S.files store.old) result }
 
     // Only the indexes of these columns change, and none where the request is refused before it builds. Where it is done, each
@@ -111,6 +112,7 @@ fn build_parts<S: Store, L: Ledger>(
     ensures stop { IfErr result (StopsIn (S.files store.old) dataset.now (record { spec = spec.now; cols = cols.now })) }
     ensures kept { ChangesAmong (IsIndexName dataset.now cols.now) (S.files store.old) (S.files store.new) }
     ensures puts { OnOk result (HasIndexes (S.files store.old) dataset.now (record { spec = spec.now; cols = cols.now }) (S.files store.new)) }
+    ensures sound { OnOk result (AreAllSound (S.files store.old) dataset.now cols.now) }
     ensures stands { (world : World) (content : Content) → StandsFor (S.files store.old) world
         → content_at world dataset.now.dir ≡ Some content → dataset.now ≡ dataset_in dataset.now.dir content
         → LeavesTasks dataset.now.dir spec.now world (tasks_in spec.now content.schema cols.now content.parts) result (S.files store.new) }
@@ -141,6 +143,7 @@ fn build_part<S: Store, L: Ledger>(
     ensures kept { ChangesAmong (IsPartIndex dataset.now part.now cols.now) (S.files store.old) (S.files store.new) }
     ensures puts { OnOk result (HasPartIndexes (S.files store.old) dataset.now part.now (record { spec = spec.now; cols = cols.now })
         (S.files store.new)) }
+    ensures sound { OnOk result (AreSound (S.files store.old) dataset.now part.now cols.now) }
     ensures stands { (world : World) (content : Content) (place : ℕ) (p : Partition) → StandsFor (S.files store.old) world
         → content_at world dataset.now.dir ≡ Some content → slice_get content.parts place ≡ Some p
         → content.schema ≡ dataset.now.schema → part.now ≡ part_data content.schema p
@@ -172,6 +175,7 @@ fn build_column<S: Store, L: Ledger>(
     ensures kept { ChangesAmong (IsPartIndex dataset.now part.now (col ∷ [])) (S.files store.old) (S.files store.new) }
     ensures puts { OnOk result (HasPartIndexes (S.files store.old) dataset.now part.now (record { spec = spec.now; cols = col ∷ [] })
         (S.files store.new)) }
+    ensures sound { OnOk result (AreSound (S.files store.old) dataset.now part.now (col ∷ [])) }
     ensures stands { (world : World) (content : Content) (place : ℕ) (p : Partition) → StandsFor (S.files store.old) world
         → content_at world dataset.now.dir ≡ Some content → slice_get content.parts place ≡ Some p
         → content.schema ≡ dataset.now.schema → part.now ≡ part_data content.schema p

@@ -8,3 +8,6 @@ mod laws;
 
 pub use building::build_indexes;
 pub use laws::{the_columns_of_a_request, the_end_of_a_request, the_indexes_of_a_request};
+
+#[cfg(test)]
+mod tests;

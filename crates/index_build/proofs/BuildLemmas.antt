@@ -1,11 +1,9 @@
 -- An index is built of an opened column, and its reads and files are the column's.
 use Rattle.std.proofs.Common.{◌≡◌, ◌≢◌, inl, inr, ◌*◌, ◌<◌, ◌≤◌, ℕ, ℤ, Bool, List, Option, Some, Result, Ok, Err, IsSome, length, map, take, refl, sym, ap, subst, ◌∙◌, arith}
-use Rattle.std.specs.Prelude.{IfErr, IfSome}
+use Rattle.std.specs.Prelude.{IfErr}
 use Rattle.std.specs.List.{All}
 use Rattle.std.proofs.Math.Seq.{take-length}
 use Rattle.fb_outside.specs.Files.{ChangesOnly, Files, PutLeaves, SameFiles, file_at, told_at}
-use Rattle.fb_outside.specs.Reads.{AddsOnly, IsWholeLook, Look}
-use Rattle.fb_outside.proofs.ReadLemmas.{AddsOnly-trans, AddsOnly-weaken}
 use Rattle.fb_types.specs.declared.schemas.Column.{Column}
 use Rattle.fb_types.specs.declared.types.ColType.{ColType}
 use Rattle.wah_words.specs.Bytes.{spelling}
@@ -15,14 +13,11 @@ use Rattle.index_spec.specs.Language.{IsGivenBinning}
 use Rattle.index_spec.specs.declared.spec.EncodingSpec.{EncodingSpec}
 use Rattle.index_spec.specs.declared.spec.Spec.{Spec}
 use Rattle.part_meta.specs.declared.part.PartMeta.{PartMeta}
-use Rattle.binning.specs.Bins.{bins_of, cells, present}
-use Rattle.binning.specs.Keys.{keying_of}
+use Rattle.binning.specs.Bins.{cells, present}
 use Rattle.binning.specs.declared.gathering.Bin.{Bin}
 use Rattle.binning.proofs.ColumnLemmas.{length-cells}
 use Rattle.binning.proofs.KeyLemmas.{kept_of}
-use Rattle.dataset.specs.PartColumns.{IsOpened, OpensColumn, column_at, mask_file}
-use Rattle.dataset.specs.declared.fault.PartFault.{PartFault}
-use Rattle.dataset.specs.declared.fault.PartFault.TheVariants as unopened
+use Rattle.dataset.specs.PartColumns.{IsOpened, column_at, mask_file}
 use Rattle.dataset.specs.declared.content.Dataset.{Dataset}
 use Rattle.binning.specs.Encodings.{vectors}
 use Rattle.binning.specs.Members.{bitmaps_of}
@@ -35,7 +30,7 @@ use Rattle.index_file.specs.IndexFile.{index_bytes}
 use Rattle.index_build.specs.declared.fault.BuildFault.{BuildFault}
 use Rattle.index_build.specs.declared.fault.BuildFault.TheVariants.{Damaged, TooManyBins, Store, OutOfMemory}
 use Rattle.index_build.specs.declared.writing.Built.{Built}
-use Rattle.index_build.specs.Build.{AnswersOver, HasRows, IsColumnLook, IsShort, LeavesIndex, StopsColumn, bin_count, fault_of_part}
+use Rattle.index_build.specs.Build.{AnswersOver, HasRows, IsShort, LeavesIndex, StopsColumn, bin_count}
 use Rattle.index_build.proofs.IndexLemmas.{over_limit}
 use Rattle.index_build.specs.Index.{AreBinsOf, AreOfColumn, HasNumbers, Tells}
 use Rattle.world.specs.IndexFiles.{bins_by, edge_of, index_of, keys_by}
@@ -59,17 +54,6 @@ pub told_bins : (files : Option Files) (column : ColumnRef) (spec : Spec) (bins 
 told_bins files column spec bins numbers h has =
     let same : h.numbers ≡ numbers = h.read.told numbers has ∙ ap (λ n. take n numbers) (sym has.rows) ∙ take-length numbers in
     h.are ∙ ap (bins_by spec column.mask) same
-
--- the mask and then the values of a part's column
-pub part_looks : (files : Option Files) (dataset : Dataset) (part : PartMeta) (column : Column) (opened : ColumnRef) (old mid new : Option (List Look))
-    → part.number < 4096 → IsOpened dataset part column opened → AddsOnly (IsWholeLook files (mask_file dataset part column)) old mid
-    → AddsOnly (λ look. look.name ≡ opened.name) mid new → AddsOnly (IsColumnLook dataset.dir column.name) old new
-part_looks files dataset part column opened old mid new few is h k =
-    AddsOnly-trans (IsColumnLook dataset.dir column.name) old mid new
-    (AddsOnly-weaken (IsWholeLook files (mask_file dataset part column)) (IsColumnLook dataset.dir column.name) old mid
-    (λ look w. record { number = part.number; few = few; file = inr w.of_it }) h)
-    (AddsOnly-weaken (λ look. look.name ≡ opened.name) (IsColumnLook dataset.dir column.name) mid new
-    (λ look e. record { number = part.number; few = few; file = inl (e ∙ is.file) }) k)
 
 -- ---- what is written
 
@@ -149,7 +133,7 @@ numbers_whole files column numbers has = length-values_bytes column.ty numbers �
 -- ---- a part's column, opened
 
 -- files with these rows open
-rows_open : (files : Files) (dataset : Dataset) (part : PartMeta) (column : Column) (mask : List Bool) (numbers : List ℤ) → part.rows ≤ 4194304
+pub rows_open : (files : Files) (dataset : Dataset) (part : PartMeta) (column : Column) (mask : List Bool) (numbers : List ℤ) → part.rows ≤ 4194304
     → HasRows files dataset.dir part column mask numbers → column_at files dataset part column ≡ Ok mask
 rows_open files dataset part column mask numbers few has =
     let w = width_in column.ty in
@@ -157,25 +141,6 @@ rows_open files dataset part column mask numbers few has =
     ∙ ap (λ (o : Option (List ℕ)). column_in w part.rows (Some (values_bytes column.ty numbers)) o) has.present
     ∙ ap (λ (k : ℕ). column_in w k (Some (values_bytes column.ty numbers)) (Some (spelling mask))) (sym has.each)
     ∙ column_opens column.ty numbers mask (omega (arith, has.long, few)) (has.long ∙ sym has.each)
-
-pub unopened_answers : (files : Option Files) (m : Files) (dataset : Dataset) (part : PartMeta) (column : Column) (mask : List Bool) (numbers : List ℤ)
-    (encoding : EncodingSpec) (n : ℕ) (fault : PartFault) → part.rows ≤ 4194304 → files ≡ Some m
-    → IfSome files (λ told. OpensColumn told dataset part column (Err fault)) → HasRows m dataset.dir part column mask numbers
-    → AnswersOver encoding n (Err (fault_of_part fault))
-unopened_answers files m dataset part column mask numbers encoding n (unopened.Damaged file kind want have) few told h has =
-    let found = subst (λ (o : Option Files). IfSome o (λ told. OpensColumn told dataset part column (Err (unopened.Damaged file kind want have)))) told h in
-    let bad : Ok mask ≡ Err found.0 = sym (rows_open m dataset part column mask numbers few has) ∙ found.1 in absurd (cc)
-unopened_answers files m dataset part column mask numbers encoding n unopened.Store few told h has = tt
-unopened_answers files m dataset part column mask numbers encoding n unopened.OutOfMemory few told h has = tt
-
-pub opened_mask : (files : Option Files) (m : Files) (dataset : Dataset) (part : PartMeta) (column : Column) (mask : List Bool) (numbers : List ℤ)
-    (opened : ColumnRef) → part.rows ≤ 4194304 → files ≡ Some m → IfSome files (λ told. OpensColumn told dataset part column (Ok opened))
-    → HasRows m dataset.dir part column mask numbers → opened.mask ≡ mask
-opened_mask files m dataset part column mask numbers opened few told h has =
-    let found : column_at m dataset part column ≡ Ok opened.mask
-    = subst (λ (o : Option Files). IfSome o (λ told. OpensColumn told dataset part column (Ok opened))) told h in
-    let both : Ok opened.mask ≡ Ok mask = sym found ∙ rows_open m dataset part column mask numbers few has in
-    cc
 
 pub opened_numbers : (files : Option Files) (m : Files) (dataset : Dataset) (part : PartMeta) (column : Column) (mask : List Bool) (numbers : List ℤ)
     (opened : ColumnRef) → files ≡ Some m → IsOpened dataset part column opened → HasRows m dataset.dir part column mask numbers

@@ -1,5 +1,5 @@
 -- What the files stand for after a build.
-use Rattle.std.proofs.Common.{◌≡◌, ◌⊎◌, inl, inr, ℕ, ℤ, Bool, List, Option, Some, None, Result, Ok, Err, IsSome, length, map, refl, sym, ap, subst, ◌∙◌}
+use Rattle.std.proofs.Common.{◌≡◌, ◌⊎◌, inl, inr, ℕ, ℤ, Bool, List, Option, Some, None, Result, Ok, Err, IsSome, length, map, refl, sym, subst, ◌∙◌}
 use Rattle.std.specs.FinMap.{insert}
 use Rattle.std.proofs.lemmas.List.{length-map}
 use Rattle.fb_outside.specs.Files.{Files, PutLeaves, Puts, SameFiles}
@@ -10,7 +10,7 @@ use Rattle.index_spec.specs.Language.{IsGiven}
 use Rattle.index_spec.specs.declared.spec.Spec.{Spec}
 use Rattle.part_meta.specs.FileNames.{index_name}
 use Rattle.part_meta.specs.declared.part.PartMeta.{PartMeta}
-use Rattle.world.specs.Cells.{column_cells, is_present, stored_numbers}
+use Rattle.world.specs.Cells.{column_cells, dictionary_of, is_present, stored_numbers}
 use Rattle.world.specs.Effects.{Builds, after_one}
 use Rattle.world.specs.IndexFiles.{HasBitmaps, index_of}
 use Rattle.world.specs.PartFiles.{part_data}
@@ -18,7 +18,7 @@ use Rattle.world.specs.Stands.{Stands, StandsFor}
 use Rattle.world.specs.World.{Partition, World}
 use Rattle.world.proofs.BuiltLemmas.{Stands-built}
 use Rattle.dataset.specs.InWorld.{IsColumnOf}
-use Rattle.dataset.proofs.ColumnLemmas.{has_numbers}
+use Rattle.dataset.proofs.ColumnLemmas.{has_numbers, has_words}
 use Rattle.index_build.specs.declared.fault.BuildFault.{BuildFault}
 use Rattle.index_build.specs.declared.writing.Built.{Built}
 use Rattle.index_build.specs.Build.{HasRows, LeavesIndex, bin_count}
@@ -38,6 +38,7 @@ rows_in_world files world dir part col column schema h of some =
       fit = has.fit;
       each = has.each_row ∙ rows;
       long = length-map cells is_present ∙ rows;
+      words = λ is. (dictionary_of cells, has_words files world dir part col column h of is);
     }
 
 pub stands_built : (files : Files) (world : World) (dir : List ℕ) (part : Partition) (col : ℕ) (column : Column) (spec : Spec)

@@ -1,7 +1,7 @@
 -- What is built of the bins of a column is an index.
-use Rattle.std.proofs.Common.{◌≡◌, ◌+◌, ◌-◌, ◌*◌, ◌<◌, ◌≤◌, ◌^◌, ℕ, zero, suc, ℤ, Bool, true, false, cond, List, [], ◌∷◌, ◌++◌, Option, Some, None, IsSome, length, map, min, nat_lt, nat_eq, unwrap_or, option_map, int_lt, ◌<ℤ◌, refl, sym, ap, subst, ◌∙◌, arith}
+use Rattle.std.proofs.Common.{◌≡◌, ◌+◌, ◌-◌, ◌*◌, ◌<◌, ◌≤◌, ℕ, zero, suc, ℤ, Bool, true, false, cond, List, [], ◌∷◌, Option, Some, None, IsSome, length, map, nat_lt, nat_eq, unwrap_or, option_map, int_lt, ◌<ℤ◌, refl, sym, ap, subst, ◌∙◌, arith}
 use Rattle.std.specs.Int.{div_ceil}
-use Rattle.std.specs.List.{All, AllByRecursion, filter_map, range_with_len}
+use Rattle.std.specs.List.{All, AllByRecursion}
 use Rattle.std.proofs.lemmas.Bool.Decides.{nat_tests}
 use Rattle.std.proofs.lemmas.Grind.{div_ceil_times}
 use Rattle.std.proofs.lemmas.List.{length-map}
@@ -23,7 +23,7 @@ use Rattle.index_file.specs.Order.{AreAbove, AreInOrder, first_out_of_order}
 use Rattle.index_file.proofs.OrderLemmas.{of_order}
 use Rattle.index_file.specs.declared.edge.Edge.{Edge}
 use Rattle.wah_words.specs.Limits.{most_bits}
-use Rattle.binning.specs.Bins.{bin_of, bins_of, cells, has_key, present}
+use Rattle.binning.specs.Bins.{bin_of, bins_of, has_key, present}
 use Rattle.binning.specs.Keys.{key, put, rising}
 use Rattle.binning.specs.Encodings.{nested_bins, vectors}
 use Rattle.binning.specs.Order.{BinsRise}

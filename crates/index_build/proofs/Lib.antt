@@ -2,3 +2,4 @@ pub mod ReadingLemmas
 pub mod IndexLemmas
 pub mod BuildLemmas
 pub mod BuiltLemmas
+pub mod OpeningLemmas

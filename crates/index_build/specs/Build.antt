@@ -4,6 +4,7 @@ use Rattle.std.specs.List.{All}
 use Rattle.fb_outside.specs.Files.{Files, Puts, SameFiles, file_at, told_at}
 use Rattle.fb_outside.specs.Reads.{Look}
 use Rattle.fb_types.specs.declared.schemas.Column.{Column}
+use Rattle.fb_types.specs.declared.types.ColType.TheVariants.{Category}
 use Rattle.wah_words.specs.Bytes.{spelling}
 use Rattle.column_file.specs.declared.column.ColumnRef.{ColumnRef}
 use Rattle.column_file.specs.Values.{ValueFits, values_bytes, width_in}
@@ -14,11 +15,12 @@ use Rattle.binning.specs.Encodings.{nested_bins}
 use Rattle.part_meta.specs.declared.part.PartMeta.{PartMeta}
 use Rattle.part_meta.specs.FileNames.{mask_name, values_name}
 use Rattle.world.specs.IndexFiles.{bins_by}
-use Rattle.dataset.specs.Damage.{IsColumnDamaged}
+use Rattle.dataset.specs.Damage.{Damage, IsColumnDamaged, IsDamagedAt, words_at, words_name}
+use Rattle.dataset.specs.PartColumns.{HasWords, OpensDictionary, column_at}
 use Rattle.dataset.specs.declared.content.Dataset.{Dataset}
 use Rattle.dataset.specs.declared.fault.DamageKind.TheVariants.{Length}
 use Rattle.dataset.specs.declared.fault.PartFault.{PartFault}
-use Rattle.dataset.specs.declared.fault.PartFault.TheVariants as part
+use Rattle.dataset.specs.declared.fault.PartFault.TheVariants as unopened
 use Rattle.index_build.specs.declared.fault.BuildFault.{BuildFault}
 use Rattle.index_build.specs.declared.fault.BuildFault.TheVariants.{Damaged, TooManyBins, Store, OutOfMemory}
 use Rattle.index_build.specs.declared.writing.Built.{Built}
@@ -26,13 +28,14 @@ use Rattle.index_build.specs.Index.{HasNumbers}
 
 -- ---- what a build leaves and answers
 
--- The files of a part's column: which rows have a number, and a number of the column's type for each row.
+-- The files of a part's column: which rows have a number, and a number of the column's type for each row; a category has a dictionary.
 pub record HasRows (files : Files) (dir : List ℕ) (part : PartMeta) (column : Column) (mask : List Bool) (numbers : List ℤ) : Type 0 where
   pub values : file_at files (values_name dir part.number column.name) ≡ Some (values_bytes column.ty numbers)
   pub present : file_at files (mask_name dir part.number column.name) ≡ Some (spelling mask)
   pub fit : All (λ number. ValueFits number column.ty) numbers
   pub each : length numbers ≡ part.rows
   pub long : length mask ≡ part.rows
+  pub words : column.ty ≡ Category → (words : List (List ℕ)) × HasWords files dir part.number column words
 
 -- into how many bins the rows fall that have a number
 abbrev pub bin_count : Spec → List Bool → List ℤ → ℕ
@@ -57,12 +60,41 @@ AnswersOver encoding n (Err (Damaged file kind want have)) = ⊥
 AnswersOver encoding n (Err Store) = ⊤
 AnswersOver encoding n (Err OutOfMemory) = ⊤
 
+-- ---- what it answers over damaged files
+
+-- that damage, and nothing else that the files tell
+abbrev pub TellsDamage : Damage → Result Built BuildFault → Type 0
+TellsDamage damage (Ok built) = ⊥
+TellsDamage damage (Err (Damaged file kind want have)) = damage ≡ record { file = file; kind = kind; want = want; have = have }
+TellsDamage damage (Err (TooManyBins bins limit)) = ⊥
+TellsDamage damage (Err Store) = ⊤
+TellsDamage damage (Err OutOfMemory) = ⊤
+
+-- The dictionary of a category is read, or damaged as was answered; another column has none.
+abbrev pub ReadsWords : Files → Dataset → PartMeta → Column → Result ⊤ PartFault → Type 0
+ReadsWords files dataset part column (Ok done) =
+    column.ty ≡ Category → (words : List (List ℕ)) × (words_at files dataset.dir part column ≡ Ok words)
+ReadsWords files dataset part column (Err (unopened.Damaged file kind want have)) =
+    (column.ty ≡ Category) × OpensDictionary files dataset part column (Err (unopened.Damaged file kind want have))
+ReadsWords files dataset part column (Err unopened.Store) = ⊤
+ReadsWords files dataset part column (Err unopened.OutOfMemory) = ⊤
+
+-- The files are those of such a column, a category's dictionary among them, or have that first damage.
+abbrev pub OpensNumbers : Files → Dataset → PartMeta → Column → Result ColumnRef PartFault → Type 0
+OpensNumbers files dataset part column (Ok opened) =
+    (column_at files dataset part column ≡ Ok opened.mask)
+    × (column.ty ≡ Category → (words : List (List ℕ)) × (words_at files dataset.dir part column ≡ Ok words))
+OpensNumbers files dataset part column (Err (unopened.Damaged file kind want have)) =
+    IsDamagedAt files dataset.dir part column (record { file = file; kind = kind; want = want; have = have })
+OpensNumbers files dataset part column (Err unopened.Store) = ⊤
+OpensNumbers files dataset part column (Err unopened.OutOfMemory) = ⊤
+
 -- ---- why it ends without an index
 
 abbrev pub fault_of_part : PartFault → BuildFault
-fault_of_part (part.Damaged file kind want have) = Damaged file kind want have
-fault_of_part part.Store = Store
-fault_of_part part.OutOfMemory = OutOfMemory
+fault_of_part (unopened.Damaged file kind want have) = Damaged file kind want have
+fault_of_part unopened.Store = Store
+fault_of_part unopened.OutOfMemory = OutOfMemory
 
 -- fewer bytes of a file came, or memory ran out
 abbrev pub IsShort : List ℕ → ℕ → ℕ → BuildFault → Type 0
@@ -90,8 +122,9 @@ StopsIn files dataset name OutOfMemory = ⊤
 
 -- ---- what it reads
 
--- at the values or the mask of the column of this name, in a part
-pub record IsColumnLook (dir name : List ℕ) (look : Look) : Type 0 where
+-- at the values or the mask of the column in a part, or at its dictionary where it is a category
+pub record IsColumnLook (dir : List ℕ) (column : Column) (look : Look) : Type 0 where
   pub number : ℕ
   pub few : number < 4096
-  pub file : (look.name ≡ values_name dir number name) ⊎ (look.name ≡ mask_name dir number name)
+  pub file : (look.name ≡ values_name dir number column.name) ⊎ (look.name ≡ mask_name dir number column.name)
+      ⊎ ((column.ty ≡ Category) × (look.name ≡ words_name dir number column.name))

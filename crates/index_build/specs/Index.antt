@@ -1,18 +1,14 @@
 -- What is read of a column for its index, and what is written.
-use Rattle.std.specs.Prelude.{◌≡◌, ℕ, ℤ, Bool, List, ⊤, Option, Some, None, IsSome, length, map, take}
+use Rattle.std.specs.Prelude.{◌≡◌, ℕ, ℤ, List, ⊤, Option, Some, None, IsSome, length, take}
 use Rattle.fb_outside.specs.Files.{Files, told_at}
 use Rattle.column_file.specs.declared.column.ColumnRef.{ColumnRef}
 use Rattle.column_file.specs.Values.{ValueFits, values_bytes}
 use Rattle.std.specs.List.{All}
 use Rattle.index_spec.specs.Counts.{bitmap_count}
 use Rattle.index_spec.specs.declared.spec.EncodingSpec.{EncodingSpec}
-use Rattle.index_spec.specs.declared.spec.Spec.{Spec}
-use Rattle.index_file.specs.declared.edge.Edge.{Edge}
-use Rattle.index_file.specs.IndexFile.{index_bytes}
-use Rattle.binning.specs.Bins.{bins_of, cells, present}
-use Rattle.binning.specs.Encodings.{nested_bins, vectors}
-use Rattle.binning.specs.Keys.{IsKeying, keying_of}
-use Rattle.binning.specs.Members.{bitmaps_of}
+use Rattle.binning.specs.Bins.{bins_of, cells}
+use Rattle.binning.specs.Encodings.{nested_bins}
+use Rattle.binning.specs.Keys.{IsKeying}
 use Rattle.binning.specs.declared.gathering.Bin.{Bin}
 use Rattle.binning.specs.declared.rules.Keying.{Keying}
 use Rattle.index_build.specs.declared.fault.BuildFault.{BuildFault}

@@ -14,17 +14,19 @@ ghost use Rattle.world.specs.IndexFiles.{index_of};
 ghost use Rattle.world.specs.PartFiles.{part_data};
 ghost use Rattle.world.specs.Stands.{StandsFor};
 ghost use Rattle.world.specs.World.{Partition, World};
+ghost use Rattle.dataset.specs.Damage.{Damage, IsDamagedAt};
 ghost use Rattle.dataset.specs.InWorld.{IsColumnOf};
-ghost use Rattle.index_build.specs.Build.{AnswersOver, HasRows, IsColumnLook, IsShort, LeavesIndex, StopsColumn, StopsIn, bin_count, fault_of_part};
+ghost use Rattle.index_build.specs.Build.{AnswersOver, HasRows, IsColumnLook, IsShort, LeavesIndex, StopsColumn, StopsIn, TellsDamage, bin_count, fault_of_part};
 ghost use Rattle.index_build.specs.Built.{StandsAfter};
 ghost use Rattle.index_build.specs.Index.{HasNumbers};
 
 use crate::fault::BuildFault;
 use crate::gathering::column_bins;
+use crate::opening::open_numbers;
 use crate::reading::ReadFault;
 use crate::writing::{Built, write_bins};
 use column_file::ColumnRef;
-use dataset::{DamageKind, Dataset, PartFault, open_part_column};
+use dataset::{DamageKind, Dataset, PartFault};
 use fb_outside::{FileName, Store};
 use fb_types::Column;
 use index_spec::Spec;
@@ -33,8 +35,9 @@ use std::alloc::Global;
 use std::sync::ledger::Ledger;
 use steps::Steps;
 
-/// Builds the index of a column of a part by a specification, in place of one that is there: reads the column by blocks
-/// of at most 4,096 rows, and puts the index file as its last call. A category's numbers are the codes of its words.
+/// Builds the index of a column of a part by a specification, in place of one that is there: opens the column, reads a
+/// category's dictionary, reads the column by blocks of at most 4,096 rows, and puts the index file as its last call. A
+/// category's numbers are the codes of its words.
 pub fn build<S: Store, L: Ledger>(
     alloc: Global,
     store: &mut S,
@@ -63,6 +66,10 @@ pub fn build<S: Store, L: Ledger>(
         → HasRows m dataset.now.dir part.now column.now mask numbers
         → AnswersOver spec.now.encoding (bin_count spec.now mask numbers) result }
 
+    // Where one of them is damaged, the first damage is told: of the values and the mask, and behind them of a category's dictionary.
+    ensures damaged { (m : Files) (damage : Damage) → S.files store.old ≡ Some m
+        → IsDamagedAt m dataset.now.dir part.now column.now damage → TellsDamage damage result }
+
     // Where they stand for a world with that column, they stand for the world after the build, or for that before if it stopped.
     ensures stands { (world : World) (p : Partition) (col : ℕ) → StandsFor (S.files store.old) world
         → IsColumnOf world dataset.now.dir p col column.now → part.now ≡ part_data dataset.now.schema p
@@ -73,9 +80,9 @@ pub fn build<S: Store, L: Ledger>(
     ensures kept { ChangesOnly (index_name dataset.now.dir part.now.number column.now.name) (S.files store.old) (S.files store.new) }
     ensures refused { IfErr result (λ fault. fault ≢ BuildFault.Store → SameFiles (S.files store.old) (S.files store.new)) }
     ensures stop { IfErr result (StopsIn (S.files store.old) dataset.now column.now.name) }
-    ensures reads { AddsOnly (IsColumnLook dataset.now.dir column.now.name) (S.reads store.old) (S.reads store.new) }
+    ensures reads { AddsOnly (IsColumnLook dataset.now.dir column.now) (S.reads store.old) (S.reads store.new) }
 {
-    let found = match open_part_column(alloc, store, dataset, part, column) {
+    let found = match open_numbers(alloc, store, dataset, part, column) {
         Ok(found) => found,
         Err(fault) => return Err(fault_of_part(fault)),
     };

@@ -5,6 +5,7 @@ mod build_law;
 mod building;
 mod fault;
 mod gathering;
+mod opening;
 mod reading;
 mod writing;
 

@@ -184,7 +184,7 @@ type_at schema col ty h = ap (λ (c : Column). c.ty) (sym (unwrap_or-slice_get s
     by None e = absurd cc
     by (Some column) e = let same : column.ty ≡ ty = cc in same
 
-type_for : (schema : List Column) (part : Partition) (condition : PlanAtom) → (fits : FitsColumn schema condition)
+pub type_for : (schema : List Column) (part : Partition) (condition : PlanAtom) → (fits : FitsColumn schema condition)
     → (column_for schema part condition).ty ≡ fits.ty
 unfolding column_at
 type_for schema part condition fits = type_at schema (place_in condition) fits.ty fits.there

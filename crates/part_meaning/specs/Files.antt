@@ -18,14 +18,14 @@ use Rattle.part_meaning.specs.Bitmaps.{index_places}
 
 -- ---- bitmaps
 
-abbrev pub from_bitmaps : Option Spec → PartColumn → ℕ → Bool
-from_bitmaps None column offset = false
-from_bitmaps (Some spec) column offset = nat_le (slice_index (index_places spec column) 0) offset
+abbrev pub is_past_head : Option Spec → PartColumn → ℕ → Bool
+is_past_head None column end = false
+is_past_head (Some spec) column end = nat_lt (slice_index (index_places spec column) 0) end
 
--- the read is of the column's index file, at its first bitmap or past it
+-- the read is of the column's index file, and ends past the place where its first bitmap begins
 unfoldable pub is_bitmap_of : List ℕ → ℕ → PartColumn → Look → Bool
 is_bitmap_of dir number column look =
-    bytes_eq look.name (index_name dir number column.name) && from_bitmaps column.spec column look.offset
+    bytes_eq look.name (index_name dir number column.name) && is_past_head column.spec column (look.offset + look.room)
 
 -- ---- files without values
 

@@ -57,6 +57,10 @@ pub fn the_reads_of_columns()
         (look (codes "D/p0000/a.idx") 24 171) ≡ false }
     ensures bitmap { is_bitmap_of (codes "D") 0 (ten Equality)
         (look (codes "D/p0000/a.idx") 195 12) ≡ true }
+
+    // A read that goes on past the head reads of a bitmap.
+    ensures both { is_bitmap_of (codes "D") 0 (ten Equality)
+        (look (codes "D/p0000/a.idx") 24 172) ≡ true }
 {}
 
 /// The bounds of estimates and the numbers of checks.

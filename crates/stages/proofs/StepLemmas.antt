@@ -17,15 +17,15 @@ work_sum m plan = ap (λ n. 8 + 16 * parts_of plan + n) (each_more m.work (atoms
 
 -- ---- the second stage
 
-pub cost_second : (g s t u p l : ℕ) → t ≤ s + 2 * g * (8 * l) → u ≤ t + 2 * g * (6 * p + 2) → u ≤ s + 2 * g * (6 * p + 8 * l + 2)
-cost_second g s t u p l h k =
-    let z : 2 * g * (6 * p + 8 * l + 2) ≡ 2 * g * (8 * l) + 2 * g * (6 * p + 2) = grind arith in
-    omega (arith, h, k, z)
+pub cost_second : (g s t u v p l : ℕ) → t ≤ s + 2 * g * (8 * l) → u ≤ t + 2 * g * (6 * p + 2) → v ≤ u + g → v ≤ s + 2 * g * (6 * p + 8 * l + 3)
+cost_second g s t u v p l h k n =
+    let z : 2 * g * (6 * p + 8 * l + 3) ≡ 2 * g * (8 * l) + 2 * g * (6 * p + 2) + 2 * g = grind arith in
+    omega (arith, h, k, n, z)
 
 -- conditions alone
-pub cost_decided : (g s t p l : ℕ) → t ≤ s + 2 * g * (8 * l) → t ≤ s + 2 * g * (6 * p + 8 * l + 2)
+pub cost_decided : (g s t p l : ℕ) → t ≤ s + 2 * g * (8 * l) → t ≤ s + 2 * g * (6 * p + 8 * l + 3)
 cost_decided g s t p l h =
-    let z : 2 * g * (6 * p + 8 * l + 2) ≡ 2 * g * (8 * l) + 2 * g * (6 * p + 2) = grind arith in
+    let z : 2 * g * (6 * p + 8 * l + 3) ≡ 2 * g * (8 * l) + 2 * g * (6 * p + 3) = grind arith in
     omega (arith, h, z)
 
 -- ---- both evaluations
@@ -36,9 +36,9 @@ cost_first g s t u p l h k =
     let z : 2 * g * (12 * p + 8 * l + 8) ≡ 2 * g * (6 * p) + 2 * g * (6 * p + 8 * l) + 16 * g = grind arith in
     omega (arith, h, k, z)
 
-pub cost_both : (g s t u v p l : ℕ) → t ≤ s + 2 * g * (6 * p) → u ≤ t + 8 * g → v ≤ u + 2 * g * (6 * p + 8 * l + 2) → v ≤ s + 2 * g * (12 * p + 8 * l + 8)
+pub cost_both : (g s t u v p l : ℕ) → t ≤ s + 2 * g * (6 * p) → u ≤ t + 8 * g → v ≤ u + 2 * g * (6 * p + 8 * l + 3) → v ≤ s + 2 * g * (12 * p + 8 * l + 8)
 cost_both g s t u v p l h k n =
-    let z : 2 * g * (12 * p + 8 * l + 8) ≡ 2 * g * (6 * p) + 2 * g * (6 * p + 8 * l + 2) + 12 * g = grind arith in
+    let z : 2 * g * (12 * p + 8 * l + 8) ≡ 2 * g * (6 * p) + 2 * g * (6 * p + 8 * l + 3) + 10 * g = grind arith in
     omega (arith, h, k, n, z)
 
 -- ---- with the first stage

@@ -132,6 +132,7 @@ pub(crate) fn decide_all<S: Store, C: Conditions, L: Ledger>(
     ensures files { SameFiles (S.files store.old) (S.files store.new) }
     ensures stop { IfErr result (λ fault. C.is_memory fault ⊎ IsOneOf atoms.now (λ atom. C.stops conditions.now (S.files store.old) atom fault)) }
     ensures number { IfOk result (λ made. length made.answers.items ≡ length atoms.now) }
+    ensures few { IfOk result (λ made. made.checked < 2 ^ 54) }
     ensures length { IfOk result (λ made. All (λ a. length a ≡ C.rows conditions.now) made.answers.items) }
     ensures steps { steps.new ≤ steps.old + 2 * groups_and_rest (C.rows conditions.now) * (8 * length atoms.now) }
 

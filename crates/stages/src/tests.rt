@@ -20,7 +20,6 @@ use std::sync::ledger::Ledger;
 use std::test::Fail;
 use steps::{Blank, Count, Steps};
 use three_valued::{Answers, Join};
-use wah_iter::count_ones;
 use wah_logic::And;
 use wah_words::{Builder, Wah};
 use where_plan::{Plan, PlanAtom};
@@ -292,8 +291,7 @@ fn numbers<L: Ledger>(
     let Ok(hits) = evaluate(alloc, &mut store, &sheet, plan, &mut steps) else {
         return Ok(None);
     };
-    let count = count_ones(&hits.rows, &mut steps);
-    Ok(Some((bounds.definite, bounds.possible, count, hits.checked)))
+    Ok(Some((bounds.definite, bounds.possible, hits.count, hits.checked)))
 }
 
 /// Between 4 and 7 rows, 5 of them, with 3 checked. Its opposite is true on the others.

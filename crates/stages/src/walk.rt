@@ -5,7 +5,7 @@ ghost use Rattle.binning.specs.declared.against_bins.Three.{Three};
 ghost use Rattle.where_plan.specs.declared.plan.PlanAtom.{PlanAtom};
 ghost use Rattle.fb_outside.specs.Causes.{HasCause};
 ghost use Rattle.fb_outside.specs.Files.{SameFiles};
-ghost use Rattle.wah_logic.specs.Logic.{groups_and_rest};
+ghost use Rattle.wah_logic.specs.Logic.{groups_and_rest, ones};
 ghost use Rattle.wah_words.specs.Limits.{most_bits};
 ghost use Rattle.three_valued.specs.Candidates.{checked, definite_rows, possible_rows};
 ghost use Rattle.three_valued.specs.Held.{held_answers};
@@ -38,10 +38,12 @@ pub struct Bounds {
     pub possible: u64,
 }
 
-/// The rows on which a plan is true, and how many pairs of a condition and a candidate of it were checked by values.
+/// The rows on which a plan is true, how many they are, and how many pairs of a condition and a candidate of it were checked
+/// by values.
 #[derive(Drop)]
 pub struct Hits {
     pub rows: Wah,
+    pub count: u64,
     pub checked: u64,
 }
 
@@ -77,6 +79,7 @@ fn bounds_of<L: Ledger>(
     requires long { All (λ a. length a ≡ rows) answers.now }
     ensures definite { IfOk result (λ bounds. (answer : ℕ → PlanAtom → Three) → answers.now ≡ columns rows answer (atoms_of plan.now) → bounds.definite ≡ definite_rows rows answer plan.now) }
     ensures possible { IfOk result (λ bounds. (answer : ℕ → PlanAtom → Three) → answers.now ≡ columns rows answer (atoms_of plan.now) → bounds.possible ≡ possible_rows rows answer plan.now) }
+    ensures few { IfOk result (λ bounds. (bounds.definite ≤ rows) × (bounds.possible ≤ rows)) }
     ensures steps { steps.new ≤ steps.old + 2 * groups_and_rest rows * (6 * parts_of plan.now + 1) }
 {
     let held = answers_of(alloc, plan, rows, answers, steps)?;
@@ -98,6 +101,7 @@ pub fn estimate<S: Store, C: Conditions, L: Ledger>(
     ensures cause { HasCause (S.faults store.old) (S.faults store.new) (IsRefused result C.is_store) }
     ensures files { SameFiles (S.files store.old) (S.files store.new) }
     ensures stop { IfErr result (λ fault. C.is_memory fault ⊎ IsOneOf (atoms_of plan.now) (λ atom. C.stops conditions.now (S.files store.old) atom fault)) }
+    ensures few { IfOk result (λ bounds. (bounds.definite ≤ C.rows conditions.now) × (bounds.possible ≤ C.rows conditions.now)) }
 
     // Where the files are sound.
     ensures definite { IfOk result (λ bounds. (m : Meaning) → C.means conditions.now (S.files store.old) m → bounds.definite ≡ definite_rows m.rows m.answer plan.now) }
@@ -140,7 +144,9 @@ fn second_stage<S: Store, C: Conditions, L: Ledger>(
     ensures files { SameFiles (S.files store.old) (S.files store.new) }
     ensures stop { IfErr result (λ fault. C.is_memory fault ⊎ IsOneOf atoms.now (λ atom. C.stops conditions.now (S.files store.old) atom fault)) }
     ensures length { IfOk result (λ hits. length hits.rows ≡ C.rows conditions.now) }
-    ensures steps { steps.new ≤ steps.old + 2 * groups_and_rest (C.rows conditions.now) * (6 * parts_of plan.now + 8 * length atoms.now + 2) }
+    ensures count { IfOk result (λ hits. hits.count ≡ ones hits.rows) }
+    ensures few { IfOk result (λ hits. hits.checked < 2 ^ 54) }
+    ensures steps { steps.new ≤ steps.old + 2 * groups_and_rest (C.rows conditions.now) * (6 * parts_of plan.now + 8 * length atoms.now + 3) }
 
     // Where the files are sound.
     ensures rows { IfOk result (λ hits. (m : Meaning) → C.means conditions.now (S.files store.old) m → hits.rows ≡ true_of m plan.now) }
@@ -150,8 +156,10 @@ fn second_stage<S: Store, C: Conditions, L: Ledger>(
 {
     let second = decide_all(alloc, store, conditions, atoms, stage, unknown, steps)?;
     let rows = true_rows(alloc, plan, whole, unknown, &second.answers, steps)?;
+    let count = count_ones(&rows, steps);
     Ok(Hits {
         rows,
+        count,
         checked: second.checked,
     })
 }
@@ -178,6 +186,8 @@ fn hits_of<S: Store, C: Conditions, L: Ledger>(
     ensures files { SameFiles (S.files store.old) (S.files store.new) }
     ensures stop { IfErr result (λ fault. C.is_memory fault ⊎ IsOneOf atoms.now (λ atom. C.stops conditions.now (S.files store.old) atom fault)) }
     ensures length { IfOk result (λ hits. length hits.rows ≡ C.rows conditions.now) }
+    ensures count { IfOk result (λ hits. hits.count ≡ ones hits.rows) }
+    ensures few { IfOk result (λ hits. hits.checked < 2 ^ 54) }
     ensures steps { steps.new ≤ steps.old + 2 * groups_and_rest (C.rows conditions.now) * (12 * parts_of plan.now + 8 * length atoms.now + 8) }
 
     // Where the files are sound.
@@ -192,7 +202,12 @@ fn hits_of<S: Store, C: Conditions, L: Ledger>(
     let left = count_ones(&unknown, steps);
     if left == 0 {
         let rows = whole.definite().copy(alloc, steps)?;
-        return Ok(Hits { rows, checked: 0 });
+        let count = count_ones(&rows, steps);
+        return Ok(Hits {
+            rows,
+            count,
+            checked: 0,
+        });
     }
     second_stage(
         alloc, store, conditions, plan, atoms, stage, whole, &unknown, steps,
@@ -213,6 +228,8 @@ pub fn evaluate<S: Store, C: Conditions, L: Ledger>(
     ensures files { SameFiles (S.files store.old) (S.files store.new) }
     ensures stop { IfErr result (λ fault. C.is_memory fault ⊎ IsOneOf (atoms_of plan.now) (λ atom. C.stops conditions.now (S.files store.old) atom fault)) }
     ensures length { IfOk result (λ hits. length hits.rows ≡ C.rows conditions.now) }
+    ensures count { IfOk result (λ hits. hits.count ≡ ones hits.rows) }
+    ensures few { IfOk result (λ hits. hits.checked < 2 ^ 54) }
 
     // Where the files are sound.
     ensures rows { IfOk result (λ hits. (m : Meaning) → C.means conditions.now (S.files store.old) m → hits.rows ≡ true_of m plan.now) }

@@ -6,7 +6,7 @@ use Rattle.fb_types.specs.declared.schema_text.SchemaKind.TheVariants.{Empty, To
 use Rattle.csv_load.specs.declared.fields.RecordKind.{RecordKind}
 use Rattle.csv_load.specs.declared.fields.RecordKind.TheVariants.{FieldCount, NotWhole, OutOfRange, TextLength}
 use Rattle.dataset.specs.declared.fault.DamageKind.{DamageKind}
-use Rattle.dataset.specs.declared.fault.DamageKind.TheVariants.{Missing, Text, Length, Mask}
+use Rattle.dataset.specs.declared.fault.DamageKind.TheVariants.{Missing, Text, Length, Mask, Starts, Words, Index}
 use Rattle.index_spec.specs.declared.spec.SpecKind.{SpecKind}
 use Rattle.index_spec.specs.declared.spec.SpecKind.TheVariants as spec
 use Rattle.where_grammar.specs.declared.clause.QueryKind.{QueryKind}
@@ -73,6 +73,9 @@ damage_word Missing = codes "Missing"
 damage_word Text = codes "Text"
 damage_word Length = codes "Length"
 damage_word Mask = codes "Mask"
+damage_word Starts = codes "Starts"
+damage_word Words = codes "Words"
+damage_word Index = codes "Index"
 
 unfoldable pub limit_word : LimitKind → List ℕ
 limit_word Rows = codes "rows"

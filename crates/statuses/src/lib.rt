@@ -292,6 +292,9 @@ fn damage_kind(kind: DamageKind) -> &'static str
         DamageKind::Text => "Text",
         DamageKind::Length => "Length",
         DamageKind::Mask => "Mask",
+        DamageKind::Starts => "Starts",
+        DamageKind::Words => "Words",
+        DamageKind::Index => "Index",
     }
 }
 

@@ -1,10 +1,11 @@
 //! The dataset at a path, for a command, or why there is none.
 
-ghost use Rattle.std.specs.Prelude.{◌≡◌, IfOk, IsErrOf};
+ghost use Rattle.std.specs.Prelude.{◌≡◌, IfOk, IfSome, IsErrOf};
 ghost use Rattle.fb_outside.specs.Causes.{HasCause};
 ghost use Rattle.fb_outside.specs.Files.{SameFiles};
 ghost use Rattle.fb_outside.specs.Names.{IsPath};
 ghost use Rattle.fb_outside.specs.Reads.{AddsOnly};
+ghost use Rattle.dataset.specs.Looks.{IsListedLook};
 ghost use Rattle.dataset.specs.Opened.{IsDataset, IsTextLook};
 ghost use Rattle.statuses.specs.Opening.{Finds, damaged_status};
 
@@ -22,6 +23,7 @@ pub fn opened<S: Store>(alloc: Global, store: &mut S, dir: &FileName) -> Result<
     ensures valid { IfOk result IsDataset }
     ensures path { IfOk result (λ dataset. dataset.dir ≡ dir.now) }
     ensures reads { AddsOnly (IsTextLook dir.now) (S.reads store.old) (S.reads store.new) }
+    ensures listed { IfSome (S.files store.old) (λ m. AddsOnly (IsListedLook m dir.now) (S.reads store.old) (S.reads store.new)) }
     ensures finds { Finds dir.now (S.files store.old) result }
 {
     match open_dataset(alloc, store, dir) {

@@ -8,3 +8,4 @@ pub mod UnionLemmas
 pub mod PairLemmas
 pub mod SwapLemmas
 pub mod PutLemmas
+pub mod GroupLemmas

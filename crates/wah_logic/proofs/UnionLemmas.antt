@@ -2,7 +2,7 @@
 use Rattle.std.proofs.Common.{◌≡◌, ℕ, zero, suc, ◌+◌, ◌-◌, ◌*◌, ◌/◌, ◌%◌, ◌^◌, ◌<◌, ◌≤◌, Bool, true, false, List, [], ◌∷◌, ◌++◌, length, take, drop, map, get_or, replicate, All, Result, Ok, Err, OnOk, OnErr, refl, sym, ap, subst, ◌∙◌, arith}
 use Rattle.std.proofs.lemmas.List.{length-replicate, replicate-append-replicate, drop_more, drop_all, append-nil, map-append, take-map, drop-map}
 use Rattle.std.proofs.lemmas.List.Elements.{All-drop, All-take}
-use Rattle.std.proofs.lemmas.List.Sums.{sum_by-append}
+use Rattle.std.proofs.lemmas.List.Sums.{sum_by-append, sum_by-cons}
 use Rattle.std.proofs.Math.Nat.{pow-succ', mul-le-mul_left, mul-le-mul_right}
 use Rattle.wah_words.specs.Spelling.{words_of}
 use Rattle.wah_words.proofs.SpellingLemmas.{words_of_le}
@@ -17,7 +17,7 @@ or_false : (x : Bool) → or x false ≡ x
 or_false true = refl
 or_false false = refl
 
-each_or_assoc : (a b c : List Bool) → length a ≡ length b → length b ≡ length c → each_place or (each_place or a b) c ≡ each_place or a (each_place or b c)
+pub each_or_assoc : (a b c : List Bool) → length a ≡ length b → length b ≡ length c → each_place or (each_place or a b) c ≡ each_place or a (each_place or b c)
 unfolding each_place
 each_or_assoc [] b c h k = refl
 each_or_assoc (x ∷ a) [] c h k = absurd (omega arith)
@@ -31,7 +31,7 @@ each_zeros_left zero (x ∷ v) h = absurd (omega arith)
 each_zeros_left (suc n) [] h = absurd (omega arith)
 each_zeros_left (suc n) (x ∷ v) h = ap (λ l. x ∷ l) (each_zeros_left n v (omega arith))
 
-each_zeros_right : (n : ℕ) (v : List Bool) → length v ≡ n → each_place or v (replicate n false) ≡ v
+pub each_zeros_right : (n : ℕ) (v : List Bool) → length v ≡ n → each_place or v (replicate n false) ≡ v
 unfolding each_place
 each_zeros_right zero [] h = refl
 each_zeros_right zero (x ∷ v) h = absurd (omega arith)
@@ -227,3 +227,48 @@ pub zeros_all : (len : ℕ) → replicate (31 * (len / 31)) false ++ replicate (
 zeros_all len =
     let e : 31 * (len / 31) + len % 31 ≡ len = omega arith in
     replicate-append-replicate (31 * (len / 31)) (len % 31) false ∙ ap (λ n. replicate n false) e
+
+-- ---- vectors one by one
+
+-- what is left of the list, where x comes next
+rest_is : {X : Type 0} (f : X → List Bool) (i : ℕ) (list : List X) (x : X) → i < length list → x ≡ get_or list i x → map f (drop i list) ≡ f x ∷ map f (drop (i + 1) list)
+rest_is f i list x h e = ap (map f) (drop_more list i x h ∙ ap (λ y. y ∷ drop (i + 1) list) (sym e))
+
+pub rest_union : {X : Type 0} (f : X → List Bool) (len i : ℕ) (list : List X) (x : X) (u v w : List Bool) → i < length list → x ≡ get_or list i x → v ≡ f x → All (λ v. length v ≡ len) (map f list) → length u ≡ len → w ≡ each_place or u v → (each_place or w (union len (map f (drop (i + 1) list))) ≡ each_place or u (union len (map f (drop i list)))) × (length w ≡ len)
+unfolding union
+rest_union f len i list x u v w h e k all long l =
+    let rest = map f (drop (i + 1) list) in
+    let some = rest_is f i list x h e in
+    let left : All (λ v. length v ≡ len) (f x ∷ rest) = subst (λ vs. All (λ v. length v ≡ len) vs) some (all_back f len i list (drop i list) refl all) in
+    let one : length v ≡ len = ap length k ∙ head_long len (f x) rest left in
+    let others : length (union len rest) ≡ len = length-union len rest (tail_long len (f x) rest left) in
+    let step : each_place or w (union len rest) ≡ each_place or u (each_place or v (union len rest)) = ap (λ a. each_place or a (union len rest)) l ∙ each_or_assoc u v (union len rest) (long ∙ sym one) (one ∙ sym others) in
+    (step ∙ ap (λ a. each_place or u (each_place or a (union len rest))) k ∙ ap (λ vs. each_place or u (union len vs)) (sym some), ap length l ∙ length-each or u v (long ∙ sym one) ∙ long)
+
+pub rest_words : {X : Type 0} (f : X → List Bool) (i : ℕ) (list : List X) (x : X) → i < length list → x ≡ get_or list i x → words_in (map f (drop i list)) ≡ words_of (f x) + words_in (map f (drop (i + 1) list))
+rest_words f i list x h e = ap words_in (rest_is f i list x h e) ∙ sum_by-cons words_of (f x) (map f (drop (i + 1) list))
+
+pub next_long : {X : Type 0} (f : X → List Bool) (len i : ℕ) (list : List X) (x : X) → i < length list → x ≡ get_or list i x → All (λ v. length v ≡ len) (map f list) → length (f x) ≡ len
+next_long f len i list x h e all =
+    head_long len (f x) (map f (drop (i + 1) list)) (subst (λ vs. All (λ v. length v ≡ len) vs) (rest_is f i list x h e) (all_back f len i list (drop i list) refl all))
+
+pub union_all : {X : Type 0} (f : X → List Bool) (len i : ℕ) (list : List X) (u all : List Bool) → length list ≤ i → length u ≡ len → each_place or u (union len (map f (drop i list))) ≡ all → u ≡ all
+unfolding union
+union_all f len i list u all h long e =
+    let none : union len (map f (drop i list)) ≡ replicate len false = ap (λ l. union len (map f l)) (drop_all i list h) in
+    sym (each_zeros_right len u long) ∙ ap (each_place or u) (sym none) ∙ e
+
+pub union_start : (len : ℕ) (u v : List Bool) → u ≡ replicate len false → length v ≡ len → (each_place or u v ≡ v) × (length u ≡ len)
+union_start len u v e h = (ap (λ a. each_place or a v) e ∙ each_zeros_left len v h, ap length e ∙ length-replicate len false)
+
+pub words_bound : {X : Type 0} (f : X → List Bool) (len : ℕ) (list : List X) → All (λ v. length v ≡ len) (map f list) → words_in (map f list) ≤ groups_and_rest len * length list
+words_bound f len [] all = omega arith
+words_bound f len (x ∷ l) all =
+    let g = groups_and_rest len in
+    let z : g * (length l + 1) ≡ g * length l + g = grind arith in
+    omega (arith, z, sum_by-cons words_of (f x) (map f l), words_few len (f x) (head_long len (f x) (map f l) all), words_bound f len l (tail_long len (f x) (map f l) all))
+
+pub twice_all : (g k s t w : ℕ) → w ≤ g * k → t ≤ s + w → t ≤ s + 2 * g * k
+twice_all g k s t w h l =
+    let z : 2 * g * k ≡ g * k + g * k = grind arith in
+    omega (arith, z, h, l)

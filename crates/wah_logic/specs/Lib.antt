@@ -1,3 +1,4 @@
 pub mod Logic
 pub mod Rest
 pub mod Pairs
+pub mod Groups

@@ -1,7 +1,9 @@
 //! Logic of two compressed vectors in lockstep: and, or, xor and and-not over words, in at most as many steps as the
-//! two vectors have words. Nothing here expands a vector.
+//! two vectors have words. Nothing here expands a vector but the union of many that have many words, which gathers its
+//! result in plain groups.
 #![tactic(auto)]
 
+mod groups;
 mod has_rows;
 mod lockstep;
 mod logic;

@@ -22,7 +22,7 @@ fn listed(alloc: Global, runs: &[(bool, u32)]) -> Result<Vec<bool>, AllocError> 
 
 /// The vector of these values, where there is room for them.
 fn built(alloc: Global, values: &[bool]) -> Result<Option<Wah>, AllocError> {
-    let mut builder = Builder::with_room(alloc, 16)?;
+    let mut builder = Builder::with_room(alloc, 40)?;
     for value in values {
         if builder.spare() == 0 || builder.len() >= MAX_LEN {
             return Ok(None);
@@ -181,13 +181,14 @@ fn first_of_group(alloc: Global, place: u32, groups: u32) -> Result<Wah, AllocEr
     Ok(out.finish())
 }
 
-/// One of these for each group.
-fn first_of_each_group(alloc: Global, groups: u32) -> Result<Vec<Wah>, AllocError>
-    requires { groups ≤ 1024 }
+/// One of these for each of the first `count` groups.
+fn first_of_each_group(alloc: Global, count: u32, groups: u32) -> Result<Vec<Wah>, AllocError>
+    requires some { count ≤ groups }
+    requires limit { groups ≤ 1024 }
     ensures { IfOk result (λ vs. All (λ v. length v ≡ 31 * groups) vs.items) }
 {
     let mut vectors = Vec::new(alloc);
-    for place in 0..groups {
+    for place in 0..count {
         vectors.push(first_of_group(alloc, place, groups)?)?;
     }
     Ok(vectors)
@@ -197,16 +198,87 @@ fn first_of_each_group(alloc: Global, groups: u32) -> Result<Vec<Wah>, AllocErro
 fn union_of_groups<L: Ledger>(
     blank: Blank,
     alloc: Global,
+    count: u32,
     groups: u32,
 ) -> Result<Vec<u8>, AllocError>
     requires ledger { blank.name ≡ L.name }
     requires parts { blank.parts ≡ L.parts }
     requires some { 0 < blank.parts }
+    requires within { count ≤ groups }
     requires limit { groups ≤ 1024 }
 {
     let mut steps = Steps::<L>::new(blank);
-    let vectors = first_of_each_group(alloc, groups)?;
+    let vectors = first_of_each_group(alloc, count, groups)?;
     or_many(alloc, &vectors, 31 * groups, &mut steps)?.to_bytes(alloc, &mut steps)
+}
+
+/// Whether the vector at this place has this row: one row of 37, four whole groups, or the last ten rows.
+fn has_row(place: u32, row: u32) -> bool {
+    match place {
+        30 => (93..217).contains(&row),
+        31 => row >= 990,
+        _ => row % 37 == place,
+    }
+}
+
+/// Whether one of the first 32 of these has it.
+fn one_has_row(row: u32) -> bool {
+    for place in 0..32 {
+        if has_row(place, row) {
+            return true;
+        }
+    }
+    false
+}
+
+/// Which of the first 1,000 rows the vector has.
+fn rows_of(alloc: Global, place: u32) -> Result<Vec<bool>, AllocError> {
+    let mut values = Vec::new(alloc);
+    for row in 0..1000 {
+        values.push(has_row(place, row))?;
+    }
+    Ok(values)
+}
+
+/// Which of them one vector at least has.
+fn rows_of_one(alloc: Global) -> Result<Vec<bool>, AllocError> {
+    let mut values = Vec::new(alloc);
+    for row in 0..1000 {
+        values.push(one_has_row(row))?;
+    }
+    Ok(values)
+}
+
+/// These vectors, where there is room for each.
+fn vectors_of_rows(alloc: Global) -> Result<Vec<Wah>, AllocError>
+    ensures { IfOk result (λ vs. All (λ v. length v ≡ 1000) vs.items) }
+{
+    let mut vectors = Vec::new(alloc);
+    for place in 0..32 {
+        let Some(vector) = built(alloc, &rows_of(alloc, place)?)? else {
+            return Ok(vectors);
+        };
+        if vector.len() != 1000 {
+            return Ok(vectors);
+        }
+        vectors.push(vector)?;
+    }
+    Ok(vectors)
+}
+
+/// Whether the union of these has the bytes of the vector of all rows.
+fn rows_agree<L: Ledger>(blank: Blank, alloc: Global) -> Result<bool, AllocError>
+    requires ledger { blank.name ≡ L.name }
+    requires parts { blank.parts ≡ L.parts }
+    requires some { 0 < blank.parts }
+{
+    let mut steps = Steps::<L>::new(blank);
+    let Some(want) = built(alloc, &rows_of_one(alloc)?)? else {
+        return Ok(false);
+    };
+    let vectors = vectors_of_rows(alloc)?;
+    let bytes = or_many(alloc, &vectors, 1000, &mut steps)?.to_bytes(alloc, &mut steps)?;
+    Ok(bytes == want.to_bytes(alloc, &mut steps)?)
 }
 
 /// The first pairs of two vectors.
@@ -256,10 +328,10 @@ fn ones_leave_the_other_vector(rt: HostRuntime) -> Result<(), Fail> {
     Ok(())
 }
 
-/// The vectors have 3,070 words in all, and 1,024 has 11 binary digits: `or_many` takes at most 33,770 steps.
+/// The vectors have 3,070 words in all, for 1,024 groups, so the union is gathered: it takes at most 3,070 steps.
 #[test]
 fn union_of_many_has_the_rows_of_each(rt: HostRuntime) -> Result<(), Fail> {
-    let bytes = union_of_groups::<Brand>(rt.blank(), rt.alloc(), 1024)?;
+    let bytes = union_of_groups::<Brand>(rt.blank(), rt.alloc(), 1024, 1024)?;
     let mut want = vec![in rt.alloc(); 0, 0x7C, 0, 0, 0, 4, 0, 0]?;
     for _ in 0..1024 {
         want.extend_from_slice(&[0, 0, 0, 0x40])?;
@@ -268,24 +340,23 @@ fn union_of_many_has_the_rows_of_each(rt: HostRuntime) -> Result<(), Fail> {
     Ok(())
 }
 
-/// Of one to nine vectors, also by reference.
+/// The 32 vectors have far more words than there are groups, and the last group isn't whole.
+#[test]
+fn a_dense_union_has_the_rows_of_each(rt: HostRuntime) -> Result<(), Fail> {
+    assert!(rt; rows_agree::<Brand>(rt.blank(), rt.alloc())?);
+    Ok(())
+}
+
+/// Of one to nine vectors, which have fewer words than there are groups, so that they are joined in pairs.
 #[test]
 fn unions_of_few_leave_none_out(rt: HostRuntime) -> Result<(), Fail> {
-    for groups in 1..10 {
-        let bytes = union_of_groups::<Brand>(rt.blank(), rt.alloc(), groups)?;
-        let mut want = vec![in rt.alloc();
-            (31 * groups % 256) as u8,
-            (31 * groups / 256) as u8,
-            0,
-            0,
-            groups as u8,
-            0,
-            0,
-            0,
-        ]?;
-        for _ in 0..groups {
+    for count in 1..10 {
+        let bytes = union_of_groups::<Brand>(rt.blank(), rt.alloc(), count, 40)?;
+        let mut want = vec![in rt.alloc(); 0xD8, 4, 0, 0, count as u8 + 1, 0, 0, 0]?;
+        for _ in 0..count {
             want.extend_from_slice(&[0, 0, 0, 0x40])?;
         }
+        want.extend_from_slice(&[40 - count as u8, 0, 0, 0x80])?;
         assert_eq!(rt; bytes.as_slice(), want.as_slice());
     }
     Ok(())

@@ -1,9 +1,10 @@
 //! Unions of many vectors.
-ghost use Rattle.std.specs.Prelude.{◌≡◌, ℕ, ◌+◌, ◌*◌, ◌^◌, ◌<◌, ◌≤◌, false, All, length, map, replicate, IfOk};
+ghost use Rattle.std.specs.Prelude.{◌≡◌, ℕ, ◌+◌, ◌*◌, ◌^◌, ◌<◌, ◌≤◌, ◌↔◌, true, false, All, length, map, replicate, IfOk};
 ghost use Rattle.wah_words.specs.Limits.{most_bits};
 ghost use Rattle.wah_words.specs.Spelling.{words_of};
 ghost use Rattle.wah_logic.specs.Logic.{each_place, or, union, groups_and_rest, words_in};
 
+use crate::groups::Groups;
 use crate::has_rows::HasRows;
 use crate::logic::combine;
 use crate::ops::Or;
@@ -92,6 +93,69 @@ fn or_halves<T: HasRows, L: Ledger>(
     or_both(alloc, &left, &right, steps)
 }
 
+/// How many groups and rests a vector of this length has.
+fn groups_in(len: u32) -> u32
+    requires { len ≤ most_bits }
+    ensures { result ≡ groups_and_rest len }
+{
+    (len + 30) / 31
+}
+
+/// Whether the vectors have together as many words as one of this length has groups.
+fn is_dense<T: HasRows>(list: &[T], len: u32) -> bool
+    requires { len ≤ most_bits }
+    ensures { result ≡ true ↔ groups_and_rest len ≤ words_in (map T.row_bits list.now) }
+{
+    let groups = groups_in(len);
+    let mut words = 0;
+    for vector in list {
+        if words >= groups {
+            return true;
+        }
+        words += vector.rows().words();
+    }
+    words >= groups
+}
+
+/// True where one of the vectors is, gathered group by group: each word is looked at once.
+fn or_dense<T: HasRows, L: Ledger>(
+    alloc: Global,
+    list: &[T],
+    len: u32,
+    steps: &mut Steps<L>,
+) -> Result<Wah, AllocError>
+    requires limit { len ≤ most_bits }
+    requires same { All (λ v. length v ≡ len) (map T.row_bits list.now) }
+    ensures values { IfOk result (λ v. v ≡ union len (map T.row_bits list.now)) }
+    ensures steps { steps.new ≤ steps.old + words_in (map T.row_bits list.now) }
+{
+    let mut groups = Groups::zeros(alloc, len)?;
+    for vector in list {
+        groups.or_vector(vector.rows(), steps);
+    }
+    groups.vector(alloc)
+}
+
+/// The same of two vectors at least, in the way that is quicker.
+fn or_some<T: HasRows, L: Ledger>(
+    alloc: Global,
+    list: &[T],
+    len: u32,
+    steps: &mut Steps<L>,
+) -> Result<Wah, AllocError>
+    requires limit { len ≤ most_bits }
+    requires some { 2 ≤ length list.now }
+    requires same { All (λ v. length v ≡ len) (map T.row_bits list.now) }
+    ensures values { IfOk result (λ v. v ≡ union len (map T.row_bits list.now)) }
+    ensures digits { (d : ℕ) → length list.now ≤ 2 ^ d → steps.new ≤ steps.old + d * words_in (map T.row_bits list.now) }
+    ensures steps { steps.new ≤ steps.old + 2 * groups_and_rest len * length list.now }
+{
+    if list.len() > 3 && is_dense(list, len) {
+        return or_dense(alloc, list, len, steps);
+    }
+    or_halves(alloc, list, len, steps)
+}
+
 /// True where one of the vectors is, each of which has this length. An empty list gives values that are all false.
 pub fn or_many<T: HasRows, L: Ledger>(
     alloc: Global,
@@ -110,6 +174,6 @@ pub fn or_many<T: HasRows, L: Ledger>(
     match list {
         [] => zeros(alloc, len),
         [vector] => vector.rows().copy(alloc, steps),
-        _ => or_halves(alloc, list, len, steps),
+        _ => or_some(alloc, list, len, steps),
     }
 }

@@ -76,4 +76,4 @@ returns-in-Err-clause-completeness g c =
 
 pub returns-in-Err-clause-reads : goal.returns-in-Err-clause-reads
 returns-in-Err-clause-reads g c =
-    quiet_reads (asked_of (asked_by c.args.words.now)) (g.I.Source.left c.args.input.now) (g.S.Store.reads c.args.store.now)
+    quiet_reads (asked_of (asked_by c.args.words.now)) (g.I.Source.left c.args.input.now) (g.S.Store.reads c.args.store.now) (g.S.Store.files c.args.store.now)

@@ -12,4 +12,4 @@ returns-in-Ok-clause-reads g c =
     let spelled : words_of c.args.line.now ≡ Some words = search rules in
     let some : 1 ≤ length words = grind (arith, c.is_empty.ensures, c.if-is_empty.false, length-map c.in-Ok-Some.words.items string_bytes) in
     let asks : c.in_session.result ≡ in_session (request_of words) = search rules in
-    words_look c.args.line.now words c.in_session.result _ _ spelled some asks c.run_asked-in-Ok.ensures.reads
+    words_look c.args.line.now words c.in_session.result _ _ _ spelled some asks c.run_asked-in-Ok.ensures.reads

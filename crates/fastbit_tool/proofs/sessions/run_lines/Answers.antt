@@ -11,9 +11,10 @@ loop-at-preserved-else-is_fault g c =
       unread = search rules;
       stored = search rules;
       printed = search rules;
-      reads = λ new k.
-          c.loop-at.invariant.reads new
-          (next_reads c.args.text.now c.loop-at.at _ _ new c.line_at-line.result.now _ c.line_at-line.ensures.first (omega arith) c.run_line-status.ensures.reads k);
+      reads = λ new files k.
+          c.loop-at.invariant.reads new files
+          (next_reads c.args.text.now c.loop-at.at _ _ new _ _ files _ _ _ c.run_line-status.result c.line_at-line.result.now _ c.line_at-line.ensures.first (omega arith)
+          c.run_line-status.ensures.runs c.run_line-status.ensures.reads k);
       rest = λ new now status k.
           c.loop-at.invariant.rest new now status
           (run_next c.args.text.now c.loop-at.at _ _ new _ now status c.line_at-line.result.now _ _ _ _ c.run_line-status.result
@@ -28,9 +29,10 @@ loop-at-preserved-else-is_fault-2 g c =
       unread = search rules;
       stored = search rules;
       printed = search rules;
-      reads = λ new k.
-          c.loop-at.invariant.reads new
-          (next_reads c.args.text.now c.loop-at.at _ _ new c.line_at-line.result.now _ c.line_at-line.ensures.first (omega arith) c.run_line-status.ensures.reads k);
+      reads = λ new files k.
+          c.loop-at.invariant.reads new files
+          (next_reads c.args.text.now c.loop-at.at _ _ new _ _ files _ _ _ c.run_line-status.result c.line_at-line.result.now _ c.line_at-line.ensures.first (omega arith)
+          c.run_line-status.ensures.runs c.run_line-status.ensures.reads k);
       rest = λ new now status k.
           c.loop-at.invariant.rest new now status
           (run_next c.args.text.now c.loop-at.at _ _ new _ now status c.line_at-line.result.now _ _ _ _ c.run_line-status.result
@@ -45,9 +47,10 @@ loop-at-preserved-else-is_fault-3 g c =
       unread = search rules;
       stored = search rules;
       printed = search rules;
-      reads = λ new k.
-          c.loop-at.invariant.reads new
-          (next_reads c.args.text.now c.loop-at.at _ _ new c.line_at-line.result.now _ c.line_at-line.ensures.first (omega arith) c.run_line-status.ensures.reads k);
+      reads = λ new files k.
+          c.loop-at.invariant.reads new files
+          (next_reads c.args.text.now c.loop-at.at _ _ new _ _ files _ _ _ c.run_line-status.result c.line_at-line.result.now _ c.line_at-line.ensures.first (omega arith)
+          c.run_line-status.ensures.runs c.run_line-status.ensures.reads k);
       rest = λ new now status k.
           c.loop-at.invariant.rest new now status
           (run_next c.args.text.now c.loop-at.at _ _ new _ now status c.line_at-line.result.now _ _ _ _ c.run_line-status.result
@@ -62,9 +65,10 @@ loop-at-preserved-else-is_fault-4 g c =
       unread = search rules;
       stored = search rules;
       printed = search rules;
-      reads = λ new k.
-          c.loop-at.invariant.reads new
-          (next_reads c.args.text.now c.loop-at.at _ _ new c.line_at-line.result.now _ c.line_at-line.ensures.first (omega arith) c.run_line-status.ensures.reads k);
+      reads = λ new files k.
+          c.loop-at.invariant.reads new files
+          (next_reads c.args.text.now c.loop-at.at _ _ new _ _ files _ _ _ c.run_line-status.result c.line_at-line.result.now _ c.line_at-line.ensures.first (omega arith)
+          c.run_line-status.ensures.runs c.run_line-status.ensures.reads k);
       rest = λ new now status k.
           c.loop-at.invariant.rest new now status
           (run_next c.args.text.now c.loop-at.at _ _ new _ now status c.line_at-line.result.now _ _ _ _ c.run_line-status.result
@@ -79,9 +83,10 @@ loop-at-preserved-else-is_fault-5 g c =
       unread = search rules;
       stored = search rules;
       printed = search rules;
-      reads = λ new k.
-          c.loop-at.invariant.reads new
-          (next_reads c.args.text.now c.loop-at.at _ _ new c.line_at-line.result.now _ c.line_at-line.ensures.first (omega arith) c.run_line-status.ensures.reads k);
+      reads = λ new files k.
+          c.loop-at.invariant.reads new files
+          (next_reads c.args.text.now c.loop-at.at _ _ new _ _ files _ _ _ c.run_line-status.result c.line_at-line.result.now _ c.line_at-line.ensures.first (omega arith)
+          c.run_line-status.ensures.runs c.run_line-status.ensures.reads k);
       rest = λ new now status k.
           c.loop-at.invariant.rest new now status
           (run_next c.args.text.now c.loop-at.at _ _ new _ now status c.line_at-line.result.now _ _ _ _ c.run_line-status.result
@@ -96,9 +101,10 @@ loop-at-preserved g c =
       unread = search rules;
       stored = search rules;
       printed = search rules;
-      reads = λ new k.
-          c.loop-at.invariant.reads new
-          (next_reads c.args.text.now c.loop-at.at _ _ new c.line_at-line.result.now _ c.line_at-line.ensures.first (omega arith) c.run_line-status.ensures.reads k);
+      reads = λ new files k.
+          c.loop-at.invariant.reads new files
+          (next_reads c.args.text.now c.loop-at.at _ _ new _ _ files _ _ _ c.run_line-status.result c.line_at-line.result.now _ c.line_at-line.ensures.first (omega arith)
+          c.run_line-status.ensures.runs c.run_line-status.ensures.reads k);
       rest = λ new now status k.
           c.loop-at.invariant.rest new now status
           (run_next c.args.text.now c.loop-at.at _ _ new _ now status c.line_at-line.result.now _ _ _ _ c.run_line-status.result

@@ -14,8 +14,9 @@ invariant-loop-at g l = record {
   unread : g.I.Source.faults l.input ≡ g.I.Source.faults l.fn.input;
   stored : g.S.Store.faults l.store ≡ g.S.Store.faults l.fn.store;
   printed : g.K.Sink.faults l.out ≡ g.K.Sink.faults l.fn.out;
-  reads : (new : Option (List Look)) → AddsReads (g.S.Store.reads l.store) new (LinesRead (lines_from l.text l.at))
-      → AddsReads (g.S.Store.reads l.fn.store) new (LinesRead (lines_of l.text));
+  reads : (new : Option (List Look)) (files : Option Files)
+      → AddsReads (g.S.Store.reads l.store) new (LinesRead (lines_from l.text l.at) (g.S.Store.files l.store) files)
+      → AddsReads (g.S.Store.reads l.fn.store) new (LinesRead (lines_of l.text) (g.S.Store.files l.fn.store) files);
   rest : (new : Option Files) (now : Option (List ℕ)) (status : Status)
       → LinesRun (lines_from l.text l.at) (g.I.Source.left l.fn.input) (g.S.Store.files l.store) new (g.K.Sink.written l.out) now status
       → LinesRun (lines_of l.text) (g.I.Source.left l.fn.input) (g.S.Store.files l.fn.store) new (g.K.Sink.written l.fn.out) now status;

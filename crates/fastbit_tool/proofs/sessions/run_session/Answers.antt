@@ -32,10 +32,16 @@ returns-in-Err-TooLong-clause-ran g c =
     (rw c.in-Err-TooLong.field-0-is at c.in-Err-TooLong.ensures.fault) c.too_long.ensures c.refuse.ensures.prints
 
 pub returns-in-Err-TooLong-clause-reads : goal.returns-in-Err-TooLong-clause-reads
-returns-in-Err-TooLong-clause-reads g c = no_lines_read (g.I.Source.left c.args.input.now) (g.S.Store.reads c.args.store.now) (g.S.Store.reads c.args.store.now) refl
+returns-in-Err-TooLong-clause-reads g c =
+    no_lines_read (g.I.Source.left c.args.input.now) (g.S.Store.reads c.args.store.now) (g.S.Store.reads c.args.store.now)
+    (g.S.Store.files c.args.store.now) (g.S.Store.files c.args.store.now) refl refl
 
 pub returns-in-Err-ReadFault-clause-reads : goal.returns-in-Err-ReadFault-clause-reads
-returns-in-Err-ReadFault-clause-reads g c = no_lines_read (g.I.Source.left c.args.input.now) (g.S.Store.reads c.args.store.now) (g.S.Store.reads c.args.store.now) refl
+returns-in-Err-ReadFault-clause-reads g c =
+    no_lines_read (g.I.Source.left c.args.input.now) (g.S.Store.reads c.args.store.now) (g.S.Store.reads c.args.store.now)
+    (g.S.Store.files c.args.store.now) (g.S.Store.files c.args.store.now) refl refl
 
 pub returns-in-Err-OutOfMemory-clause-reads : goal.returns-in-Err-OutOfMemory-clause-reads
-returns-in-Err-OutOfMemory-clause-reads g c = no_lines_read (g.I.Source.left c.args.input.now) (g.S.Store.reads c.args.store.now) (g.S.Store.reads c.args.store.now) refl
+returns-in-Err-OutOfMemory-clause-reads g c =
+    no_lines_read (g.I.Source.left c.args.input.now) (g.S.Store.reads c.args.store.now) (g.S.Store.reads c.args.store.now)
+    (g.S.Store.files c.args.store.now) (g.S.Store.files c.args.store.now) refl refl

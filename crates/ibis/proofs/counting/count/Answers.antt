@@ -1,4 +1,4 @@
-use Rattle.std.proofs.Common.{◌≡◌, Result, Ok, Err, subst, ap, sym, ◌∙◌}
+use Rattle.std.proofs.Common.{◌≡◌, Ok, ap, sym, ◌∙◌}
 use Rattle.ibis.specs.Query.{read_query}
 use Rattle.ibis.proofs.PartLemmas.{asked_looks, text_looks}
 use Rattle.ibis.proofs.WorldLemmas.{count_comes, counts_records, name_stops, opening_stops, text_stops}

@@ -1,10 +1,6 @@
-use Rattle.std.proofs.Common.{◌≡◌, ◌<◌, ◌+◌, Option, Some, length, take, ap, sym, subst, ◌∙◌, arith}
-use Rattle.std.specs.List.{slice_get}
-use Rattle.std.proofs.lemmas.List.{length-map, take_all}
-use Rattle.std.proofs.lemmas.Option.{slice_get_read}
-use Rattle.fb_outside.specs.Files.{Files}
+use Rattle.std.proofs.Common.{length, ap, ◌∙◌, arith}
+use Rattle.std.proofs.lemmas.List.{take_all}
 use Rattle.fb_outside.proofs.ReadLemmas.{AddsOnly-trans}
-use Rattle.part_meta.specs.declared.part.PartMeta.{PartMeta}
 use Rattle.ibis.specs.Rows.{cells_in_parts, passing}
 use Rattle.ibis.proofs.PartLemmas.{all_parts, next_part, part_at}
 use Rattle.ibis.proofs.counting.count_parts.Goals as goal

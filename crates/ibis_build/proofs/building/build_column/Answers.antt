@@ -9,14 +9,14 @@ use Rattle.index_build.specs.Build.{IsColumnLook}
 use Rattle.index_build.specs.declared.fault.BuildFault.TheVariants.{Store}
 use Rattle.ibis_build.specs.Columns.{can_have_index}
 use Rattle.ibis_build.specs.Looks.{IsLookAmong}
-use Rattle.ibis_build.proofs.PutLemmas.{among-it, put-one, stop-built}
+use Rattle.ibis_build.proofs.PutLemmas.{among-it, put-one, sound-one, stop-built}
 use Rattle.ibis_build.proofs.WorldLemmas.{leaves-one}
 use Rattle.ibis_build.proofs.building.build_column.Goals as goal
 
 pub returns-in-Ok-clause-reads : goal.returns-in-Ok-clause-reads
 returns-in-Ok-clause-reads g c =
     let there : slice_get c.args.dataset.now.schema c.args.col ≡ Some c.in-Some.column.now = sym c.in-Some.ensures in
-    AddsOnly-weaken (IsColumnLook c.args.dataset.now.dir c.in-Some.column.now.name) (IsLookAmong c.args.dataset.now (c.args.col ∷ [])) _ _
+    AddsOnly-weaken (IsColumnLook c.args.dataset.now.dir c.in-Some.column.now) (IsLookAmong c.args.dataset.now (c.args.col ∷ [])) _ _
     (λ look w. record {
       column = c.in-Some.column.now;
       among = record { place = 0; col = c.args.col; asked = refl; in_schema = there };
@@ -26,7 +26,7 @@ returns-in-Ok-clause-reads g c =
 pub returns-in-Err-clause-reads : goal.returns-in-Err-clause-reads
 returns-in-Err-clause-reads g c =
     let there : slice_get c.args.dataset.now.schema c.args.col ≡ Some c.in-Some.column.now = sym c.in-Some.ensures in
-    AddsOnly-weaken (IsColumnLook c.args.dataset.now.dir c.in-Some.column.now.name) (IsLookAmong c.args.dataset.now (c.args.col ∷ [])) _ _
+    AddsOnly-weaken (IsColumnLook c.args.dataset.now.dir c.in-Some.column.now) (IsLookAmong c.args.dataset.now (c.args.col ∷ [])) _ _
     (λ look w. record {
       column = c.in-Some.column.now;
       among = record { place = 0; col = c.args.col; asked = refl; in_schema = there };
@@ -59,6 +59,12 @@ returns-in-Ok-clause-puts g c =
     put-one c.args.dataset.now c.requires.listed.0 c.args.part.now c.requires.listed.1 c.args.col c.in-Some.column.now there _ c.args.spec.now
     c.in-Ok.field-0 _ c.in-Ok.ensures.leaves
 
+pub returns-in-Ok-clause-sound : goal.returns-in-Ok-clause-sound
+returns-in-Ok-clause-sound g c =
+    let there : slice_get c.args.dataset.now.schema c.args.col ≡ Some c.in-Some.column.now = sym c.in-Some.ensures in
+    sound-one c.args.dataset.now c.requires.listed.0 c.args.part.now c.requires.listed.1 c.args.col c.in-Some.column.now there _ c.in-Ok.field-0
+    c.in-Ok.ensures.damaged
+
 pub returns-in-Ok-clause-stands : goal.returns-in-Ok-clause-stands
 returns-in-Ok-clause-stands g c =
     let there : slice_get c.args.dataset.now.schema c.args.col ≡ Some c.in-Some.column.now = sym c.in-Some.ensures in
@@ -73,7 +79,7 @@ returns-in-Err-clause-stop g c =
     let there : slice_get c.args.dataset.now.schema c.args.col ≡ Some c.in-Some.column.now = sym c.in-Some.ensures in
     rw c.stop_of_build.ensures
     (stop-built c.args.dataset.now c.requires.listed.0 c.args.part.now c.requires.listed.1 c.args.col c.in-Some.column.now there _ c.args.spec.now
-    c.in-Err.fault c.in-Err.ensures.stop c.in-Err.ensures.answer)
+    c.in-Err.fault c.in-Err.ensures.stop c.in-Err.ensures.damaged c.in-Err.ensures.answer)
 
 pub returns-in-Err-clause-stands : goal.returns-in-Err-clause-stands
 returns-in-Err-clause-stands g c =

@@ -1,5 +1,6 @@
-use Rattle.std.proofs.Common.{◌*◌, List, ℕ, Ok, refl, length, ap, sym, ◌∙◌}
+use Rattle.std.proofs.Common.{◌*◌, List, ℕ, Ok, refl, length, ap, subst, sym, ◌∙◌}
 use Rattle.std.proofs.lemmas.Result.{err_from_is_err_and}
+use Rattle.ibis_build.specs.Causes.{AreAllSound}
 use Rattle.ibis_build.proofs.ColumnLemmas.{chosen-can, chosen-few}
 use Rattle.ibis_build.proofs.BuildLemmas.{build-cut, build-done, build-gives, build-keeps, build-looks, build-puts, build-stops, names-give, names-leave, opening-gives, opening-leaves, text-gives, text-leaves, text-looks}
 use Rattle.ibis_build.proofs.building.build_indexes.Goals as goal
@@ -107,7 +108,10 @@ pub returns-clause-gives : goal.returns-clause-gives
 returns-clause-gives g c =
     build-gives c.args.dir.now c.args.text.now c.args.list.now (g.S.Store.files c.args.store.now) c.in_ok-spec.spec c.in_ok-spec.ensures.ok
     c.requires.path c.in_ok-dataset.dataset c.in_ok-dataset.ensures.finds c.in_ok-dataset.ensures.path c.deref-2.result.now
-    (c.in_ok-cols.ensures.ok ∙ ap Ok (sym c.deref-2.ensures.value)) c.index_count.result c.index_count.ensures
+    (c.in_ok-cols.ensures.ok ∙ ap Ok (sym c.deref-2.ensures.value)) (g.S.Store.files c.opened.new.store) c.index_count.result
+    c.opened.ensures.files c.index_count.ensures
+    (subst (λ (cols : List ℕ). AreAllSound (g.S.Store.files c.opened.new.store) c.in_ok-dataset.dataset cols)
+    (c.deref.ensures.value ∙ sym c.deref-2.ensures.value) c.in_ok-build_parts.ensures.sound)
 
 pub returns-clause-kept : goal.returns-clause-kept
 returns-clause-kept g c =

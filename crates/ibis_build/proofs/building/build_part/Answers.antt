@@ -6,11 +6,11 @@ use Rattle.std.proofs.lemmas.Result.{err_from_is_err_and}
 use Rattle.fb_outside.proofs.FileLemmas.{ChangesAmong-trans, ChangesAmong-weaken}
 use Rattle.fb_outside.proofs.ReadLemmas.{AddsOnly-trans, AddsOnly-weaken}
 use Rattle.ibis_build.specs.Builds.{part_tasks}
-use Rattle.ibis_build.specs.Causes.{HasPartIndexes}
+use Rattle.ibis_build.specs.Causes.{AreSound, HasPartIndexes}
 use Rattle.ibis_build.specs.Leaves.{StandsWith}
 use Rattle.ibis_build.proofs.BuildLemmas.{column-stops, next-column}
 use Rattle.ibis_build.proofs.FileLemmas.{look-one, name-listed, name-one, stop-one, stop-was}
-use Rattle.ibis_build.proofs.PutLemmas.{indexes-more}
+use Rattle.ibis_build.proofs.PutLemmas.{indexes-more, sound-more}
 use Rattle.ibis_build.proofs.building.build_part.Goals as goal
 
 pub loop-col-preserved : goal.loop-col-preserved
@@ -30,6 +30,8 @@ loop-col-preserved g c =
           (AddsOnly-weaken _ _ _ _ (look-one dataset cols k _ at) c.build_column.ensures.reads);
       puts = indexes-more dataset c.requires.valid listed.0 part listed.1 spec cols k _ _ _ _ at c.loop-col.invariant.kept
           c.build_column.ensures.kept c.loop-col.invariant.puts c.in_ok-build_column.ensures.puts;
+      sound = sound-more dataset c.requires.valid listed.0 part listed.1 cols k _ _ _ at c.loop-col.invariant.kept c.loop-col.invariant.sound
+          c.in_ok-build_column.ensures.sound;
       stands = λ world content place p h there here same is.
           next-column dataset.dir spec world content place p dataset.schema part cols k _ _ _ there here same is at
           (c.loop-col.invariant.stands world content place p h there here same is) c.build_column.result _ c.in_ok-build_column.was
@@ -42,6 +44,11 @@ returns-clause-puts g c =
     (λ (cs : List ℕ). HasPartIndexes (g.S.Store.files c.args.store.now) c.args.dataset.now c.args.part.now (record { spec = c.args.spec.now; cols = cs })
     (g.S.Store.files c.loop-col.store))
     (take_all c.loop-col.col-index c.args.cols.now (omega (arith, c.loop-col-test.false))) c.loop-col.invariant.puts
+
+pub returns-clause-sound : goal.returns-clause-sound
+returns-clause-sound g c =
+    subst (λ (cs : List ℕ). AreSound (g.S.Store.files c.args.store.now) c.args.dataset.now c.args.part.now cs)
+    (take_all c.loop-col.col-index c.args.cols.now (omega (arith, c.loop-col-test.false))) c.loop-col.invariant.sound
 
 pub returns-clause-stands : goal.returns-clause-stands
 returns-clause-stands g c = λ world content place p h there here same is.

@@ -6,7 +6,7 @@ use Rattle.world.specs.PartFiles.{part_data}
 use Rattle.world.specs.Stands.{StandsFor}
 use Rattle.world.specs.World.{Content, Partition, World, content_at}
 use Rattle.ibis_build.specs.Builds.{part_tasks}
-use Rattle.ibis_build.specs.Causes.{HasPartIndexes, IsPartIndex}
+use Rattle.ibis_build.specs.Causes.{AreSound, HasPartIndexes, IsPartIndex}
 use Rattle.ibis_build.specs.Leaves.{StandsWith}
 use Rattle.ibis_build.specs.Looks.{IsLookAmong}
 use Rattle.ibis_build.proofs.building.build_part.Given as goal
@@ -17,6 +17,7 @@ invariant-loop-col g l = record {
   kept : ChangesAmong (IsPartIndex l.dataset l.part l.cols) (g.S.Store.files l.fn.store) (g.S.Store.files l.store);
   reads : AddsOnly (IsLookAmong l.dataset l.cols) (g.S.Store.reads l.fn.store) (g.S.Store.reads l.store);
   puts : HasPartIndexes (g.S.Store.files l.fn.store) l.dataset l.part (record { spec = l.spec; cols = take l.col-index l.cols }) (g.S.Store.files l.store);
+  sound : AreSound (g.S.Store.files l.fn.store) l.dataset l.part (take l.col-index l.cols);
   stands : (world : World) (content : Content) (place : ℕ) (p : Partition) → StandsFor (g.S.Store.files l.fn.store) world
       → content_at world l.dataset.dir ≡ Some content → slice_get content.parts place ≡ Some p
       → content.schema ≡ l.dataset.schema → l.part ≡ part_data content.schema p

@@ -12,7 +12,7 @@ use Rattle.ibis_build.specs.Builds.{tasks_in}
 use Rattle.ibis_build.specs.Leaves.{StandsWith}
 use Rattle.ibis_build.proofs.BuildLemmas.{next-part, part-at, part-in, part-stops}
 use Rattle.ibis_build.proofs.FileLemmas.{name-listed, stop-was}
-use Rattle.ibis_build.proofs.PutLemmas.{parts-more}
+use Rattle.ibis_build.proofs.PutLemmas.{parts-more, sound-parts}
 use Rattle.ibis_build.proofs.building.build_parts.Goals as goal
 
 pub loop-part-preserved : goal.loop-part-preserved
@@ -30,6 +30,8 @@ loop-part-preserved g c =
       reads = AddsOnly-trans _ _ _ _ c.loop-part.invariant.reads c.build_part.ensures.reads;
       puts = parts-more dataset c.requires.valid spec cols k part _ _ _ listed c.loop-part.invariant.kept c.build_part.ensures.kept
           c.loop-part.invariant.puts c.in_ok-build_part.ensures.puts;
+      sound = sound-parts dataset c.requires.valid cols k part _ _ listed c.loop-part.invariant.kept c.loop-part.invariant.sound
+          c.in_ok-build_part.ensures.sound;
       stands = λ world content h there is.
           let p = part-in dataset content k part is listed in
           next-part dataset.dir spec world content p.from dataset.schema part cols k _ _ there p.at p.same p.is
@@ -39,6 +41,12 @@ loop-part-preserved g c =
 pub returns-clause-puts : goal.returns-clause-puts
 returns-clause-puts g c = λ place part listed.
     c.loop-part.invariant.puts place part
+    (let less = slice_get_within c.args.dataset.now.parts place part listed in
+    omega (arith, less, c.loop-part-test.false, ap length c.as_slice-part-items.ensures)) listed
+
+pub returns-clause-sound : goal.returns-clause-sound
+returns-clause-sound g c = λ place part listed.
+    c.loop-part.invariant.sound place part
     (let less = slice_get_within c.args.dataset.now.parts place part listed in
     omega (arith, less, c.loop-part-test.false, ap length c.as_slice-part-items.ensures)) listed
 

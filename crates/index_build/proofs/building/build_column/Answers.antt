@@ -1,4 +1,4 @@
-use Rattle.std.proofs.Common.{◌≡◌, inl, sym, ap, ◌∙◌}
+use Rattle.std.proofs.Common.{◌∙◌}
 use Rattle.std.proofs.lemmas.Result.{IfErr-weaker}
 use Rattle.column_file.specs.Values.{values_bytes}
 use Rattle.index_build.proofs.BuildLemmas.{answers_read, leaves_read, leaves_stopped, numbers_whole, read_bins, short_stops, stops_written, told_bins, written_kept}

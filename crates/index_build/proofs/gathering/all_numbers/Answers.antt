@@ -1,9 +1,5 @@
-use Rattle.std.proofs.Common.{◌≡◌, ◌+◌, ℤ, ◌++◌, List, Option, length, take, drop, refl, ap, sym, subst, ◌∙◌, arith}
-use Rattle.std.proofs.Math.Seq.{take-add}
+use Rattle.std.proofs.Common.{◌≡◌, ◌+◌, ℤ, ◌++◌, List, length, take, drop, refl, ap, sym, subst, ◌∙◌, arith}
 use Rattle.std.proofs.lemmas.List.{length-append, length-drop, length-take}
-use Rattle.std.specs.List.{All}
-use Rattle.fb_outside.specs.Files.{Files}
-use Rattle.column_file.specs.Values.{ValueFits}
 use Rattle.fb_outside.proofs.ReadLemmas.{AddsOnly-same, AddsOnly-trans}
 use Rattle.index_build.specs.Index.{AreRead}
 use Rattle.index_build.proofs.ReadingLemmas.{more_read, none_read, taken_whole}

@@ -1,4 +1,4 @@
-use Rattle.std.proofs.Common.{◌≡◌, ◌-◌, ◌≤◌, ℤ, List, length, take}
+use Rattle.std.proofs.Common.{◌≡◌, ◌-◌, ◌≤◌, length}
 use Rattle.fb_outside.specs.Files.{SameFiles}
 use Rattle.fb_outside.specs.Reads.{AddsOnly}
 use Rattle.index_build.specs.Index.{AreRead}

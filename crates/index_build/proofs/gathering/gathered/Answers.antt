@@ -1,7 +1,6 @@
 use Rattle.std.proofs.Common.{◌≡◌, ◌+◌, ◌-◌, ℤ, ◌++◌, List, Option, length, take, drop, refl, [], ap, sym, subst, ◌∙◌, arith}
 use Rattle.std.specs.List.{AllByRecursion}
 use Rattle.std.proofs.lemmas.List.{length-append, length-drop, length-take}
-use Rattle.fb_outside.specs.Files.{Files}
 use Rattle.fb_outside.proofs.ReadLemmas.{AddsOnly-same, AddsOnly-trans}
 use Rattle.binning.specs.Bins.{cells}
 use Rattle.binning.specs.Gathered.{Gathered}

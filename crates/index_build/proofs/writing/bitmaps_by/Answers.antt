@@ -1,4 +1,4 @@
-use Rattle.std.proofs.Common.{sym, ap, ◌∙◌, arith}
+use Rattle.std.proofs.Common.{arith}
 use Rattle.index_build.proofs.IndexLemmas.{of_column_apart, of_column_few, of_column_long}
 use Rattle.index_build.proofs.writing.bitmaps_by.Goals as goal
 

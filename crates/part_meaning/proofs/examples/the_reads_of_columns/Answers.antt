@@ -44,3 +44,7 @@ returns-clause-head c = refl
 pub returns-clause-bitmap : goal.returns-clause-bitmap
 unfolding is_bitmap_of index_places printed printed_binning printed_encoding digits each_place union spelling word_bytes active_bytes words_bytes regular_words groups_in rest_of file_name leaf part_folder
 returns-clause-bitmap c = refl
+
+pub returns-clause-both : goal.returns-clause-both
+unfolding is_bitmap_of index_places printed printed_binning printed_encoding digits each_place union spelling word_bytes active_bytes words_bytes regular_words groups_in rest_of file_name leaf part_folder
+returns-clause-both c = refl

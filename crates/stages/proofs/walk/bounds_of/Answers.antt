@@ -1,5 +1,6 @@
 use Rattle.std.proofs.Common.{◌≡◌, ℕ, ◌+◌, ◌*◌, ◌≤◌, length, ap, ◌∙◌, arith}
 use Rattle.std.proofs.lemmas.List.{length-map}
+use Rattle.std.proofs.lemmas.List.Sums.{count_by-le-length}
 use Rattle.wah_logic.specs.Logic.{groups_and_rest}
 use Rattle.wah_logic.proofs.UnionLemmas.{words_few}
 use Rattle.three_valued.specs.Plans.{parts_of}
@@ -20,3 +21,14 @@ returns-clause-steps g c =
     let second = words_few rows c.possible.result.now (ap length c.possible.ensures ∙ length-map whole is_possible ∙ long) in
     cost (groups_and_rest rows) c.args.steps.now c.answers_of.new.steps c.count_ones-definite.new.steps c.count_ones-possible.new.steps (parts_of c.args.plan.now) c.answers_of.ensures.steps
     (omega (arith, c.count_ones-definite.ensures.steps, first)) (omega (arith, c.count_ones-possible.ensures.steps, second))
+
+pub returns-clause-few : goal.returns-clause-few
+returns-clause-few g c =
+    let rows = c.args.rows in
+    let whole = c.get-whole.result.now in
+    let long : length whole ≡ rows = ap length c.get-whole.ensures ∙ c.in_ok-held.ensures.length in
+    let definite : length c.definite.result.now ≡ rows = ap length c.definite.ensures ∙ length-map whole is_yes ∙ long in
+    let possible : length c.possible.result.now ≡ rows = ap length c.possible.ensures ∙ length-map whole is_possible ∙ long in (
+      omega (arith, c.count_ones-definite.ensures.count, count_by-le-length (λ b. b) c.definite.result.now, definite),
+      omega (arith, c.count_ones-possible.ensures.count, count_by-le-length (λ b. b) c.possible.result.now, possible),
+    )

@@ -52,8 +52,9 @@ returns-then-left-eq0-clause-steps g c =
     let second = subst (λ n. c.unknown_rows.new.steps ≤ t + 2 * groups_and_rest n) long c.unknown_rows.ensures.steps in
     let few = words_few rows c.in_ok-unknown.unknown (ap length c.in_ok-unknown.ensures.rows ∙ length-map whole is_unknown ∙ long) in
     let some = words_few rows c.definite.result.now (ap length c.definite.ensures ∙ length-map whole is_yes ∙ long) in
-    cost_first (groups_and_rest rows) c.args.steps.now t c.copy.new.steps (parts_of plan) (length c.args.atoms.now) first
-    (omega (arith, second, few, some, c.count_ones-left.ensures.steps, c.in_ok-rows.ensures.steps))
+    let same = words_few rows c.in_ok-rows.rows (ap length (c.in_ok-rows.ensures.copied ∙ c.definite.ensures) ∙ length-map whole is_yes ∙ long) in
+    cost_first (groups_and_rest rows) c.args.steps.now t c.count_ones-count.new.steps (parts_of plan) (length c.args.atoms.now) first
+    (omega (arith, second, few, some, same, c.count_ones-left.ensures.steps, c.in_ok-rows.ensures.steps, c.count_ones-count.ensures.steps))
 
 pub returns-then-left-eq0-clause-rows : goal.returns-then-left-eq0-clause-rows
 returns-then-left-eq0-clause-rows g c m is =

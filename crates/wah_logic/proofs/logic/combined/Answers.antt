@@ -1,7 +1,5 @@
-use Rattle.std.proofs.Common.{◌≡◌, Bool, List, length, sym, ap, ◌∙◌, arith}
-use Rattle.std.proofs.lemmas.Result.{IfOk-weaker}
+use Rattle.std.proofs.Common.{length, ap, ◌∙◌, arith}
 use Rattle.wah_words.proofs.SpellingLemmas.{words_of_le}
-use Rattle.wah_logic.specs.Logic.{each_place}
 use Rattle.wah_logic.proofs.JoinLemmas.{length-each}
 use Rattle.wah_logic.proofs.logic.combined.Goals as goal
 

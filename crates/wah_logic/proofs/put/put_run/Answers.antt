@@ -1,4 +1,4 @@
-use Rattle.std.proofs.Common.{◌≡◌, ◌+◌, ◌*◌, length, ap, ◌∙◌, arith}
+use Rattle.std.proofs.Common.{length, ap, ◌∙◌, arith}
 use Rattle.wah_words.specs.declared.run.Run.TheVariants as runs
 use Rattle.wah_words.specs.Left.{run_values}
 use Rattle.wah_logic.proofs.WalkLemmas.{length-run_values}

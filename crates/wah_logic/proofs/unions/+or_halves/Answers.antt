@@ -1,5 +1,5 @@
-use Rattle.std.proofs.Common.{◌≡◌, ◌+◌, ◌*◌, ◌/◌, ◌-◌, ◌^◌, ◌≤◌, ℕ, length, map, sym, ◌∙◌, rules, arith, subst, ap, IfOk}
-use Rattle.wah_logic.specs.Logic.{union, groups_and_rest, words_in}
+use Rattle.std.proofs.Common.{◌≡◌, ◌+◌, ◌*◌, ◌/◌, length, map, sym, ◌∙◌, rules, arith, subst, ap, IfOk}
+use Rattle.wah_logic.specs.Logic.{groups_and_rest, words_in}
 use Rattle.wah_logic.proofs.UnionLemmas.{all_front, all_back, halves_union, halves_words, halves_long, halves_digits, halves_steps, words_few}
 use Rattle.wah_logic.proofs.unions.+or_halves.Goals as goal
 

@@ -1,6 +1,6 @@
-use Rattle.std.proofs.Common.{◌≡◌, ◌+◌, ◌*◌, ◌^◌, ◌≤◌, ℕ, List, Bool, [], ◌∷◌, length, map, refl, sym, ap, ◌∙◌, arith, subst, IfOk}
+use Rattle.std.proofs.Common.{◌≡◌, length, map, refl, sym, ap, ◌∙◌, arith, subst, IfOk}
 use Rattle.wah_words.specs.Spelling.{words_of}
-use Rattle.wah_logic.specs.Logic.{each_place, or, union, groups_and_rest, words_in}
+use Rattle.wah_logic.specs.Logic.{each_place, or, groups_and_rest, words_in}
 use Rattle.wah_logic.proofs.JoinLemmas.{length-each}
 use Rattle.wah_logic.proofs.UnionLemmas.{two_items, three_items, two_long, three_long, two_union, three_union, two_words, three_words, one_digit, two_digits, so_many_times, few_steps, words_few}
 use Rattle.wah_logic.proofs.unions.or_few.Goals as goal

@@ -1,6 +1,6 @@
-use Rattle.std.proofs.Common.{◌≡◌, ◌+◌, [], ◌∷◌, length, map, sym, ap, ◌∙◌, arith, subst, IfOk}
+use Rattle.std.proofs.Common.{◌≡◌, length, map, ap, ◌∙◌, arith, subst, IfOk}
 use Rattle.wah_words.specs.Spelling.{words_of}
-use Rattle.wah_logic.specs.Logic.{union, groups_and_rest, words_in}
+use Rattle.wah_logic.specs.Logic.{groups_and_rest, words_in}
 use Rattle.wah_logic.proofs.UnionLemmas.{no_item, one_item, one_words, one_union, some_digits, so_many_times, words_few, copy_steps, twice_each}
 use Rattle.wah_logic.proofs.unions.or_many.Goals as goal
 

@@ -1,13 +1,18 @@
 -- What is asked for, and a call that ended before it asked for anything.
 use Rattle.std.proofs.Common.{◌≡◌, inl, inr, ℕ, Bool, true, false, List, Option, refl}
 use Rattle.fb_outside.specs.Files.{ChangesAmong, Files}
+use Rattle.fb_outside.specs.Reads.{Look}
 use Rattle.fb_outside.specs.Streams.{ForSomeInput}
 use Rattle.fb_outside.proofs.FileLemmas.{ChangesAmong-same}
+use Rattle.fb_outside.proofs.ReadLemmas.{AddsOnly-same}
 use Rattle.command_words.specs.declared.Job.{Job}
 use Rattle.statuses.specs.declared.Status.TheVariants.{OutOfMemory}
 use Rattle.commands.specs.Command.{Command, command_of}
+use Rattle.commands.specs.Looks.{IsLookOf}
 use Rattle.commands.proofs.PrintLemmas.{some_input, some_told}
-use Rattle.fastbit_tool.specs.Requests.{Asked, AskedRuns, AskedYields, IsOfAsked, Of, OfSession, Unread, asked_of, is_session}
+use Rattle.commands.proofs.QuestionLemmas.{no_steps, nothing_allowed}
+use Rattle.fastbit_tool.specs.Requests.{Asked, AskedAllowed, AskedReads, AskedRuns, AskedSteps, AskedYields, IsOfAsked, Of, OfSession, Unread, asked_of, is_session}
+use Rattle.fastbit_tool.specs.Session.{Outside}
 
 pub session_asked : (asked : Option Job) → is_session asked ≡ true → asked_of asked ≡ OfSession
 session_asked asked is = rw is refl
@@ -17,10 +22,21 @@ command_asked asked is = rw is refl
 
 -- ---- memory ran out before anything was done
 
-pub quiet_prints : (asked : Asked) (left : Option (List ℕ)) (files : Option Files) (written : Option (List ℕ))
-    → AskedRuns asked left files files written written OutOfMemory
-quiet_prints OfSession left files written = Unread refl refl (inr refl)
-quiet_prints (Of command) left files written = refl
+pub quiet_prints : (asked : Asked) (left : Option (List ℕ)) (outside : Outside) → AskedRuns asked left outside outside OutOfMemory
+quiet_prints OfSession left outside = Unread refl (inr refl)
+quiet_prints (Of command) left outside = refl
+
+pub quiet_reads : (asked : Asked) (files : Option Files) (reads : Option (List Look)) → AskedReads asked files reads reads
+quiet_reads OfSession files reads = tt
+quiet_reads (Of command) files reads = AddsOnly-same (IsLookOf command files) reads reads refl
+
+pub quiet_allowed : (asked : Asked) (files : Option Files) (reads : Option (List Look)) → AskedAllowed asked files reads reads OutOfMemory
+quiet_allowed OfSession files reads = tt
+quiet_allowed (Of command) files reads = nothing_allowed command files reads OutOfMemory (λ e. cc)
+
+pub quiet_steps : (asked : Asked) (files : Option Files) (steps : ℕ) → AskedSteps asked files steps steps
+quiet_steps OfSession files steps = tt
+quiet_steps (Of command) files steps = no_steps command files steps
 
 pub quiet_yields : (asked : Asked) (left : Option (List ℕ)) → AskedYields asked left OutOfMemory
 quiet_yields OfSession left = tt

@@ -1,0 +1,16 @@
+pub mod FreeLemmas
+pub mod EndLemmas
+pub mod FileLemmas
+pub mod RowReadLemmas
+pub mod CheckLemmas
+pub mod SecondStageLemmas
+pub mod PartFileLemmas
+pub mod NameLemmas
+pub mod AnsweredLemmas
+pub mod MeantLemmas
+pub mod OpenLemmas
+pub mod AnswerLemmas
+pub mod IndexedLemmas
+pub mod SettleLemmas
+pub mod HeadLemmas
+pub mod PartLemmas

@@ -1,0 +1,42 @@
+use Rattle.std.proofs.Common.{ap, sym, ◌∙◌, length}
+use Rattle.std.proofs.lemmas.Result.{err_from_is_err_and}
+use Rattle.where_plan.specs.declared.plan.PlanAtom.TheVariants as atom
+use Rattle.two_stage.proofs.AnswerLemmas.{number_ends}
+use Rattle.two_stage.proofs.SettleLemmas.{mask_reads, mask_then, still_column}
+use Rattle.two_stage.proofs.settled.settle_numbers.Goals as goal
+
+pub returns-in_err-numbers-clause-whole : goal.returns-in_err-numbers-clause-whole
+returns-in_err-numbers-clause-whole g c =
+    let p = err_from_is_err_and c.from_residual.result c.from_residual.ensures.1 in
+    rw (p.1, p.2) (λ column h. c.in_err-numbers.ensures.whole column h)
+
+pub returns-in_err-numbers-clause-reads : goal.returns-in_err-numbers-clause-reads
+returns-in_err-numbers-clause-reads g c =
+    let p = err_from_is_err_and c.from_residual.result c.from_residual.ensures.1 in
+    rw p.1 (λ column h. mask_reads _ c.args.placed.now column h (atom.Whole c.args.placed.now.col c.args.spans.now) _ _ _ (λ e. absurd cc) c.in_err-numbers.ensures.reads)
+
+pub returns-in_err-column-clause-reads : goal.returns-in_err-column-clause-reads
+returns-in_err-column-clause-reads g c =
+    let p = err_from_is_err_and c.from_residual-in_err-column.result c.from_residual-in_err-column.ensures.1 in
+    rw p.1 (λ column h. mask_reads _ c.args.placed.now column h (atom.Whole c.args.placed.now.col c.args.spans.now) _ _ _ (λ e. absurd cc) c.in_ok-numbers.ensures.reads)
+
+pub settle_spans-requires : goal.settle_spans-requires
+settle_spans-requires g c = ap length c.in_ok-column.ensures.mask ∙ c.in_ok-numbers.ensures.length
+
+pub returns-in_err-answers-clause-whole : goal.returns-in_err-answers-clause-whole
+returns-in_err-answers-clause-whole g c =
+    let p = err_from_is_err_and c.from_residual-in_err-answers.result c.from_residual-in_err-answers.ensures.1 in
+    rw (p.1, p.2) (λ column h. c.in_err-answers.ensures.whole column (still_column _ _ c.args.placed.now column c.in_ok-numbers.ensures.files h) (c.in_ok-column.ensures.mask ∙ c.in_ok-numbers.ensures.found column h))
+
+pub returns-in_err-answers-clause-reads : goal.returns-in_err-answers-clause-reads
+returns-in_err-answers-clause-reads g c =
+    let p = err_from_is_err_and c.from_residual-in_err-answers.result c.from_residual-in_err-answers.ensures.1 in
+    rw p.1 (λ column h. mask_then _ c.args.placed.now column h (atom.Whole c.args.placed.now.col c.args.spans.now) _ _ _ _ c.in_ok-numbers.ensures.reads (c.in_err-answers.ensures.reads column (still_column _ _ c.args.placed.now column c.in_ok-numbers.ensures.files h) (c.in_ok-column.ensures.mask ∙ c.in_ok-numbers.ensures.found column h)))
+
+pub returns-clause-answers : goal.returns-clause-answers
+returns-clause-answers g c = λ column h.
+    c.in_ok-answers.ensures.answers column (still_column _ _ c.args.placed.now column c.in_ok-numbers.ensures.files h) (c.in_ok-column.ensures.mask ∙ c.in_ok-numbers.ensures.found column h) (number_ends _ c.args.placed.now column c.in-Some.least c.in-Some.greatest h ?)
+
+pub returns-clause-reads : goal.returns-clause-reads
+returns-clause-reads g c = λ column h.
+    mask_then _ c.args.placed.now column h (atom.Whole c.args.placed.now.col c.args.spans.now) _ _ _ _ c.in_ok-numbers.ensures.reads (c.in_ok-answers.ensures.reads column (still_column _ _ c.args.placed.now column c.in_ok-numbers.ensures.files h) (c.in_ok-column.ensures.mask ∙ c.in_ok-numbers.ensures.found column h))

@@ -1,15 +1,31 @@
 -- The reads and the steps that a plan takes over the parts of a dataset.
-use Rattle.std.specs.Prelude.{ℕ, ◌*◌, Bool, List, length, sum_by}
+use Rattle.std.specs.Prelude.{◌≡◌, ℕ, ◌*◌, Bool, List, Some, length, slice_get, slice_index_or, sum_by}
 use Rattle.std.specs.List.{flat_map, list_any}
 use Rattle.fb_outside.specs.Reads.{Look}
+use Rattle.part_meta.specs.FileNames.{file_name}
+use Rattle.part_meta.specs.declared.names.FileKind.{FileKind}
+use Rattle.part_meta.specs.declared.part.PartMeta.{PartMeta}
+use Rattle.three_valued.specs.Plans.{atoms_of}
+use Rattle.where_plan.specs.Plans.{place_in}
+use Rattle.stages.specs.Faults.{IsOneOf}
 use Rattle.stages.specs.Answer.{bitmaps_in, is_allowed_in, is_free_in, work_in}
 use Rattle.stages.specs.Meaning.{Meaning}
 use Rattle.wah_logic.specs.Logic.{groups_and_rest}
 use Rattle.where_plan.specs.declared.plan.Plan.{Plan}
 use Rattle.world.specs.World.{Partition}
 use Rattle.dataset.specs.declared.content.Dataset.{Dataset}
+use Rattle.part_meaning.specs.Columns.{no_column}
 use Rattle.part_meaning.specs.Meaning.{meaning_of}
 use Rattle.part_meaning.specs.Parts.{is_bitmap_in}
+
+-- Over every store: the read is of a file of the column of one of the plan's conditions, in a part that the dataset lists.
+pub record IsPlanLook (dataset : Dataset) (plan : Plan) (look : Look) : Type 0 where
+  pub place : ℕ
+  pub part : PartMeta
+  pub listed : slice_get dataset.parts place ≡ Some part
+  pub kind : FileKind
+  pub for_condition : IsOneOf (atoms_of plan) (λ condition. look.name
+      ≡ file_name dataset.dir part.number (Some (slice_index_or dataset.schema (place_in condition) no_column).name) kind)
 
 -- what the part of the dataset means to conditions
 abbrev pub means_in : Dataset → Partition → Meaning

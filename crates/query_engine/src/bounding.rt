@@ -3,13 +3,14 @@
 ghost use Rattle.std.specs.Prelude.{◌≡◌, ◌+◌, ◌≤◌, List, IfErr, IfOk, IsErrOf, IsOk};
 ghost use Rattle.fb_outside.specs.Causes.{HasCause};
 ghost use Rattle.fb_outside.specs.Files.{SameFiles};
+ghost use Rattle.fb_outside.specs.Reads.{AddsOnly};
 ghost use Rattle.dataset.specs.Opened.{IsDataset};
 ghost use Rattle.stages.specs.Looks.{AddsLooks};
 ghost use Rattle.where_plan.specs.Plans.{FitsSchema};
 ghost use Rattle.world.specs.World.{Partition};
 ghost use Rattle.query_engine.specs.Damage.{IfDamaged, IsPlanDamaged, NoDamage};
 ghost use Rattle.query_engine.specs.Parts.{AreParts, definite_over, possible_over};
-ghost use Rattle.query_engine.specs.Reads.{bitmaps_over, is_bitmap_over, is_free_over, steps_over};
+ghost use Rattle.query_engine.specs.Reads.{IsPlanLook, bitmaps_over, is_bitmap_over, is_free_over, steps_over};
 
 use crate::fault::AskFault;
 use crate::in_part::bound_in;
@@ -36,6 +37,7 @@ pub fn bounds<S: Store, L: Ledger>(
     ensures cause { HasCause (S.faults store.old) (S.faults store.new) (IsErrOf result AskFault.Store) }
     ensures files { SameFiles (S.files store.old) (S.files store.new) }
     ensures stop { IfErr result (λ fault. IfDamaged fault (IsPlanDamaged (S.files store.old) dataset.now plan.now)) }
+    ensures looks { AddsOnly (IsPlanLook dataset.now plan.now) (S.reads store.old) (S.reads store.new) }
 
     // Where the files rest for the parts.
     ensures definite { IfOk result (λ bounds. (parts : List Partition) → AreParts (S.files store.old) dataset.now parts

@@ -3,6 +3,7 @@
 ghost use Rattle.std.specs.Prelude.{◌≡◌, ◌+◌, ◌≤◌, List, IfErr, IfOk, IsErrOf, IsOk, length, map, sum_by};
 ghost use Rattle.fb_outside.specs.Causes.{HasCause};
 ghost use Rattle.fb_outside.specs.Files.{SameFiles};
+ghost use Rattle.fb_outside.specs.Reads.{AddsOnly};
 ghost use Rattle.dataset.specs.Opened.{IsDataset};
 ghost use Rattle.stages.specs.Looks.{AddsLooks};
 ghost use Rattle.wah_logic.specs.Logic.{ones};
@@ -10,7 +11,7 @@ ghost use Rattle.where_plan.specs.Plans.{FitsSchema};
 ghost use Rattle.world.specs.World.{Partition};
 ghost use Rattle.query_engine.specs.Damage.{IfDamaged, IsPlanDamaged, NoDamage};
 ghost use Rattle.query_engine.specs.Parts.{AreParts, checked_over, hits_over, rows_chosen};
-ghost use Rattle.query_engine.specs.Reads.{bitmaps_over, is_allowed_over, is_bitmap_over, steps_over};
+ghost use Rattle.query_engine.specs.Reads.{IsPlanLook, bitmaps_over, is_allowed_over, is_bitmap_over, steps_over};
 
 use crate::fault::AskFault;
 use crate::in_part::choose_in;
@@ -46,6 +47,7 @@ pub fn choose<S: Store, L: Ledger>(
     ensures cause { HasCause (S.faults store.old) (S.faults store.new) (IsErrOf result AskFault.Store) }
     ensures files { SameFiles (S.files store.old) (S.files store.new) }
     ensures stop { IfErr result (λ fault. IfDamaged fault (IsPlanDamaged (S.files store.old) dataset.now plan.now)) }
+    ensures looks { AddsOnly (IsPlanLook dataset.now plan.now) (S.reads store.old) (S.reads store.new) }
     ensures length { IfOk result (λ chosen. map length chosen.parts ≡ map (λ part. part.rows) dataset.now.parts) }
     ensures count { IfOk result (λ chosen. chosen.hits ≡ sum_by ones chosen.parts) }
 

@@ -3,6 +3,7 @@
 ghost use Rattle.std.specs.Prelude.{◌≡◌, ℕ, ◌+◌, ◌*◌, ◌^◌, ◌<◌, ◌≤◌, IfErr, IfOk, IsErrOf, IsOk, Some, length, slice_get};
 ghost use Rattle.fb_outside.specs.Causes.{HasCause};
 ghost use Rattle.fb_outside.specs.Files.{SameFiles};
+ghost use Rattle.fb_outside.specs.Reads.{AddsOnly};
 ghost use Rattle.dataset.specs.Opened.{IsDataset};
 ghost use Rattle.stages.specs.Answer.{bitmaps_in, is_allowed_in, is_free_in, work_in};
 ghost use Rattle.stages.specs.Looks.{AddsLooks};
@@ -14,7 +15,7 @@ ghost use Rattle.part_meaning.specs.Answers.{checked_in, definite_in, possible_i
 ghost use Rattle.part_meaning.specs.Meaning.{IsPartAt};
 ghost use Rattle.part_meaning.specs.Parts.{is_bitmap_in};
 ghost use Rattle.query_engine.specs.Damage.{IfDamaged, IsPlanDamaged, NoDamage};
-ghost use Rattle.query_engine.specs.Reads.{means_in, steps_in};
+ghost use Rattle.query_engine.specs.Reads.{IsPlanLook, means_in, steps_in};
 
 use crate::damage::ask_fault;
 use crate::fault::AskFault;
@@ -43,6 +44,7 @@ pub(crate) fn choose_in<S: Store, L: Ledger>(
     ensures cause { HasCause (S.faults store.old) (S.faults store.new) (IsErrOf result AskFault.Store) }
     ensures files { SameFiles (S.files store.old) (S.files store.new) }
     ensures stop { IfErr result (λ fault. IfDamaged fault (IsPlanDamaged (S.files store.old) dataset.now plan.now)) }
+    ensures looks { AddsOnly (IsPlanLook dataset.now plan.now) (S.reads store.old) (S.reads store.new) }
     ensures length { IfOk result (λ hits. length hits.rows ≡ part.now.rows) }
     ensures limit { part.now.rows ≤ most_bits }
     ensures count { IfOk result (λ hits. hits.count ≡ ones hits.rows) }
@@ -86,6 +88,7 @@ pub(crate) fn bound_in<S: Store, L: Ledger>(
     ensures cause { HasCause (S.faults store.old) (S.faults store.new) (IsErrOf result AskFault.Store) }
     ensures files { SameFiles (S.files store.old) (S.files store.new) }
     ensures stop { IfErr result (λ fault. IfDamaged fault (IsPlanDamaged (S.files store.old) dataset.now plan.now)) }
+    ensures looks { AddsOnly (IsPlanLook dataset.now plan.now) (S.reads store.old) (S.reads store.new) }
     ensures few { IfOk result (λ bounds. (bounds.definite ≤ most_bits) × (bounds.possible ≤ most_bits)) }
 
     // Where the files rest for a partition.

@@ -1,7 +1,9 @@
 -- Where the files of a part's column are.
-use Rattle.std.specs.Prelude.{ℕ, List, Some, slice_index_or}
+use Rattle.std.specs.Prelude.{◌≡◌, ℕ, List, Some, slice_index_or}
+use Rattle.fb_outside.specs.Reads.{Look}
 use Rattle.fb_types.specs.declared.schemas.Column.{Column}
 use Rattle.part_meta.specs.FileNames.{file_name, index_name, mask_name, values_name}
+use Rattle.part_meta.specs.declared.names.FileKind.{FileKind}
 use Rattle.part_meta.specs.declared.names.FileKind.TheVariants as file
 use Rattle.part_meta.specs.declared.part.PartMeta.{PartMeta}
 use Rattle.where_plan.specs.Plans.{place_in}
@@ -51,3 +53,8 @@ starts_file p = file_name p.dir p.number (Some p.column.name) file.Starts
 
 abbrev pub index_file : Placed → List ℕ
 index_file p = index_name p.dir p.number p.column.name
+
+-- the read is of one of them
+pub record IsColumnLook (p : Placed) (look : Look) : Type 0 where
+  pub kind : FileKind
+  pub of_it : look.name ≡ file_name p.dir p.number (Some p.column.name) kind

@@ -1,19 +1,21 @@
 //! The answer of a plan over a part of a dataset, and the bounds of its number of rows.
 
-ghost use Rattle.std.specs.Prelude.{◌≡◌, ◌⊎◌, ◌+◌, ◌*◌, ◌≤◌, IfErr, IfOk, IsOk, length};
+ghost use Rattle.std.specs.Prelude.{◌≡◌, ◌⊎◌, ◌+◌, ◌*◌, ◌<◌, ◌^◌, ◌≤◌, IfErr, IfOk, IsOk, length};
 ghost use Rattle.fb_outside.specs.Causes.{HasCause};
 ghost use Rattle.fb_outside.specs.Files.{SameFiles};
+ghost use Rattle.fb_outside.specs.Reads.{AddsOnly};
 ghost use Rattle.stages.specs.Answer.{bitmaps_in, is_allowed_in, is_free_in, work_in};
 ghost use Rattle.stages.specs.Faults.{IsOneOf, IsRefused};
 ghost use Rattle.stages.specs.Looks.{AddsLooks};
 ghost use Rattle.three_valued.specs.Plans.{atoms_of};
-ghost use Rattle.wah_logic.specs.Logic.{groups_and_rest};
+ghost use Rattle.wah_logic.specs.Logic.{groups_and_rest, ones};
 ghost use Rattle.where_plan.specs.Plans.{FitsSchema};
 ghost use Rattle.world.specs.World.{Partition};
 ghost use Rattle.part_meaning.specs.Answers.{checked_in, definite_in, possible_in, rows_that_hold};
 ghost use Rattle.part_meaning.specs.Meaning.{IsPartAt, meaning_of};
 ghost use Rattle.part_meaning.specs.Parts.{is_bitmap_in};
 ghost use Rattle.two_stage.specs.Faults.{IsOfMemory, IsOfStore, IsOutside, Stops};
+ghost use Rattle.two_stage.specs.Placed.{IsColumnLook, placed_of};
 
 use crate::conditions::PartConditions;
 use crate::fault::EvalFault;
@@ -38,6 +40,9 @@ pub fn estimate<S: Store, L: Ledger>(
     ensures files { SameFiles (S.files store.old) (S.files store.new) }
     ensures stop { IfErr result (λ fault. IsOfMemory fault
         ⊎ IsOneOf (atoms_of plan.now) (λ atom. Stops (S.files store.old) conditions.now.dir conditions.now.meta atom fault)) }
+    ensures looks { AddsOnly (λ look. IsOneOf (atoms_of plan.now) (λ atom. IsColumnLook (placed_of conditions.now.dir conditions.now.meta atom) look))
+        (S.reads store.old) (S.reads store.new) }
+    ensures few { IfOk result (λ bounds. (bounds.definite ≤ conditions.now.meta.rows) × (bounds.possible ≤ conditions.now.meta.rows)) }
 
     // Where the files rest for a partition.
     ensures definite { IfOk result (λ bounds. (p : Partition) → IsPartAt (S.files store.old) conditions.now.dir conditions.now.meta p
@@ -67,7 +72,11 @@ pub fn evaluate<S: Store, L: Ledger>(
     ensures files { SameFiles (S.files store.old) (S.files store.new) }
     ensures stop { IfErr result (λ fault. IsOfMemory fault
         ⊎ IsOneOf (atoms_of plan.now) (λ atom. Stops (S.files store.old) conditions.now.dir conditions.now.meta atom fault)) }
+    ensures looks { AddsOnly (λ look. IsOneOf (atoms_of plan.now) (λ atom. IsColumnLook (placed_of conditions.now.dir conditions.now.meta atom) look))
+        (S.reads store.old) (S.reads store.new) }
     ensures length { IfOk result (λ hits. length hits.rows ≡ conditions.now.meta.rows) }
+    ensures count { IfOk result (λ hits. hits.count ≡ ones hits.rows) }
+    ensures few { IfOk result (λ hits. hits.checked < 2 ^ 54) }
 
     // Where the files rest for a partition.
     ensures rows { IfOk result (λ hits. (p : Partition) → IsPartAt (S.files store.old) conditions.now.dir conditions.now.meta p

@@ -63,6 +63,7 @@ impl<'a> Conditions for PartConditions<'a> {
     ghost use Rattle.part_meaning.specs.Meaning.{Means};
     ghost use Rattle.two_stage.specs.Faults.{IsOfMemory, IsOfStore, Stops};
     ghost use Rattle.two_stage.specs.Kept.{IsKept};
+    ghost use Rattle.two_stage.specs.Placed.{IsColumnLook, placed_of};
     ghost use Rattle.two_stage.specs.FaultLaws.{not_of_store, of_memory};
     ghost use Rattle.two_stage.specs.MeaningLaws.{part_means};
 
@@ -79,6 +80,8 @@ impl<'a> Conditions for PartConditions<'a> {
     ghost is_open = { λ c files condition column. IsKept files c.dir c.meta condition column };
 
     ghost stops = { λ c files condition fault. Stops files c.dir c.meta condition fault };
+
+    ghost is_look = { λ c condition look. IsColumnLook (placed_of c.dir c.meta condition) look };
 
     ghost is_store = { IsOfStore };
 

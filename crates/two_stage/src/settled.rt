@@ -3,6 +3,7 @@
 ghost use Rattle.std.specs.Prelude.{◌≡◌, ◌+◌, ◌*◌, ◌≤◌, IfErr, IfOk, IsOk, IsSome, length};
 ghost use Rattle.fb_outside.specs.Causes.{HasCause};
 ghost use Rattle.fb_outside.specs.Files.{SameFiles};
+ghost use Rattle.fb_outside.specs.Reads.{AddsOnly};
 ghost use Rattle.fb_types.specs.Types.{ends_of};
 ghost use Rattle.fb_types.specs.declared.types.ColType.TheVariants as column_type;
 ghost use Rattle.wah_logic.specs.Logic.{groups_and_rest};
@@ -20,6 +21,7 @@ ghost use Rattle.part_meaning.specs.Known.{known};
 ghost use Rattle.two_stage.specs.ColumnFiles.{HasColumn};
 ghost use Rattle.two_stage.specs.Faults.{IsOfStore, IsOutside, StopsAt};
 ghost use Rattle.two_stage.specs.Kept.{IsKeptOf};
+ghost use Rattle.two_stage.specs.Placed.{IsColumnLook};
 
 use crate::fault::EvalFault;
 use crate::open_column::{OpenColumn, parted, parted_text};
@@ -47,6 +49,7 @@ pub(crate) fn settle_numbers<S: Store, L: Ledger>(
     ensures cause { HasCause (S.faults store.old) (S.faults store.new) (IsRefused result IsOfStore) }
     ensures files { SameFiles (S.files store.old) (S.files store.new) }
     ensures stop { IfErr result (StopsAt (S.files store.old) placed.now) }
+    ensures looks { AddsOnly (IsColumnLook placed.now) (S.reads store.old) (S.reads store.new) }
     ensures kept { IfOk result (λ settled. IsKeptOf (S.files store.old) placed.now (atom.Whole placed.now.col spans.now) settled.column) }
     ensures length { IfOk result (λ settled. length settled.answers ≡ placed.now.rows) }
 
@@ -86,6 +89,7 @@ pub(crate) fn settle_words<S: Store, L: Ledger>(
     ensures cause { HasCause (S.faults store.old) (S.faults store.new) (IsRefused result IsOfStore) }
     ensures files { SameFiles (S.files store.old) (S.files store.new) }
     ensures stop { IfErr result (StopsAt (S.files store.old) placed.now) }
+    ensures looks { AddsOnly (IsColumnLook placed.now) (S.reads store.old) (S.reads store.new) }
     ensures kept { IfOk result (λ settled. IsKeptOf (S.files store.old) placed.now (atom.Word placed.now.col condition.now) settled.column) }
     ensures length { IfOk result (λ settled. length settled.answers ≡ placed.now.rows) }
 
@@ -124,6 +128,7 @@ pub(crate) fn settle_texts<S: Store>(
     ensures cause { HasCause (S.faults store.old) (S.faults store.new) (IsRefused result IsOfStore) }
     ensures files { SameFiles (S.files store.old) (S.files store.new) }
     ensures stop { IfErr result (StopsAt (S.files store.old) placed.now) }
+    ensures looks { AddsOnly (IsColumnLook placed.now) (S.reads store.old) (S.reads store.new) }
     ensures kept { IfOk result (λ settled. (condition : Atom) → IsKeptOf (S.files store.old) placed.now (atom.Word placed.now.col condition) settled.column) }
     ensures length { IfOk result (λ settled. length settled.answers ≡ placed.now.rows) }
 
@@ -153,6 +158,7 @@ pub(crate) fn settle_exists<S: Store>(
     ensures cause { HasCause (S.faults store.old) (S.faults store.new) (IsRefused result IsOfStore) }
     ensures files { SameFiles (S.files store.old) (S.files store.new) }
     ensures stop { IfErr result (StopsAt (S.files store.old) placed.now) }
+    ensures looks { AddsOnly (IsColumnLook placed.now) (S.reads store.old) (S.reads store.new) }
     ensures kept { IfOk result (λ settled. IsKeptOf (S.files store.old) placed.now (atom.Exists placed.now.col) settled.column) }
     ensures length { IfOk result (λ settled. length settled.answers ≡ placed.now.rows) }
 

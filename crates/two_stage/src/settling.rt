@@ -3,7 +3,7 @@
 ghost use Rattle.std.specs.Prelude.{◌≡◌, ◌+◌, ◌*◌, ◌≤◌, IfErr, IfOk, IfSome, IsOk, Ok, Some, if◌then◌else◌, length, map};
 ghost use Rattle.fb_outside.specs.Causes.{HasCause};
 ghost use Rattle.fb_outside.specs.Files.{SameFiles, file_at};
-ghost use Rattle.fb_outside.specs.Reads.{AddsReads};
+ghost use Rattle.fb_outside.specs.Reads.{AddsOnly, AddsReads};
 ghost use Rattle.wah_logic.specs.Logic.{groups_and_rest};
 ghost use Rattle.binning.specs.Against.{against};
 ghost use Rattle.binning.specs.Spans.{int_le};
@@ -21,7 +21,7 @@ ghost use Rattle.index_file.specs.Opening.{index_in};
 ghost use Rattle.two_stage.specs.ColumnFiles.{HasColumn};
 ghost use Rattle.two_stage.specs.Faults.{IsOfStore, IsOutside, StopsAt};
 ghost use Rattle.two_stage.specs.Opened.{head_said};
-ghost use Rattle.two_stage.specs.Placed.{index_file};
+ghost use Rattle.two_stage.specs.Placed.{IsColumnLook, index_file};
 
 use crate::fault::{EvalFault, of_bins};
 use crate::placed::PlacedColumn;
@@ -72,6 +72,7 @@ pub(crate) fn settle_spans<S: Store, L: Ledger>(
     ensures cause { HasCause (S.faults store.old) (S.faults store.new) (IsRefused result IsOfStore) }
     ensures files { SameFiles (S.files store.old) (S.files store.new) }
     ensures stop { IfErr result (StopsAt (S.files store.old) placed.now) }
+    ensures looks { AddsOnly (IsColumnLook placed.now) (S.reads store.old) (S.reads store.new) }
     ensures length { IfOk result (λ a. length a ≡ placed.now.rows) }
 
     // Where the files are those of a column with this mask and these ends.
@@ -111,6 +112,7 @@ fn settle_bins<S: Store, L: Ledger>(
     ensures cause { HasCause (S.faults store.old) (S.faults store.new) (IsRefused result IsOfStore) }
     ensures files { SameFiles (S.files store.old) (S.files store.new) }
     ensures stop { IfErr result (StopsAt (S.files store.old) placed.now) }
+    ensures looks { AddsOnly (IsColumnLook placed.now) (S.reads store.old) (S.reads store.new) }
     ensures length { IfOk result (λ a. length a ≡ placed.now.rows) }
 
     // Where the files are those of a column with this mask.

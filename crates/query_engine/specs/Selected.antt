@@ -1,0 +1,236 @@
+-- The columns that a query selects: their cells in the chosen rows, what is read of them, and their damages.
+use Rattle.std.specs.Prelude.{◌≡◌, ⊤, ℕ, ◌+◌, ◌-◌, ◌<◌, ◌||◌, Bool, false, List, [], ◌∷◌, ◌++◌, length, map, drop, take, Option, Some, None, Ok, IfSome, slice_get, slice_index_or, if◌then◌else◌, nat_le}
+use Rattle.std.specs.List.{flat_map, list_any}
+use Rattle.fb_outside.specs.Files.{Files, file_at}
+use Rattle.fb_outside.specs.Reads.{Look}
+use Rattle.fb_types.specs.declared.cells.Cell.{Cell}
+use Rattle.fb_types.specs.declared.cells.Cell.TheVariants.{Null}
+use Rattle.fb_types.specs.declared.schemas.Column.{Column}
+use Rattle.fb_types.specs.declared.types.ColType.TheVariants.{Category}
+use Rattle.part_meta.specs.FileNames.{file_name}
+use Rattle.part_meta.specs.declared.names.FileKind.{FileKind}
+use Rattle.part_meta.specs.declared.names.FileKind.TheVariants as file
+use Rattle.part_meta.specs.declared.part.PartMeta.{PartMeta}
+use Rattle.column_file.specs.declared.column.ColumnRef.{ColumnRef}
+use Rattle.text_column.specs.OpenedDictionary.{dictionary_of as words_in}
+use Rattle.text_column.specs.declared.text_ref.TextRef.{TextRef}
+use Rattle.wah_iter.specs.Rows.{rows_of, runs_of}
+use Rattle.query_grammar.specs.declared.picking.PickItem.{PickItem}
+use Rattle.query_grammar.specs.declared.picking.PickItem.TheVariants as pick
+use Rattle.where_plan.specs.declared.plan.Plan.{Plan}
+use Rattle.candidates.specs.Numbers.{HasNumbers, numbers_look}
+use Rattle.candidates.specs.Texts.{HasTexts, texts_look}
+use Rattle.world.specs.Cells.{dictionary_of, stored_numbers, texts_of}
+use Rattle.world.specs.World.{Partition}
+use Rattle.dataset.specs.Damage.{Damage}
+use Rattle.dataset.specs.declared.content.Dataset.{Dataset}
+use Rattle.part_meaning.specs.Answers.{rows_that_hold}
+use Rattle.part_meaning.specs.Columns.{PartColumn, cell_of_row, column_at, no_column, present_rows}
+use Rattle.part_meaning.specs.Files.{is_free_of, is_of_rows}
+use Rattle.two_stage.specs.Faults.{StopsAt}
+use Rattle.two_stage.specs.Kept.{IsNumbersOf, IsTextsOf}
+use Rattle.two_stage.specs.Placed.{Placed, placed_at, words_file}
+use Rattle.two_stage.specs.declared.fault.EvalFault.{EvalFault}
+use Rattle.query_engine.specs.Damage.{damage_of}
+use Rattle.query_engine.specs.declared.selected.ItemColumn.{ItemColumn}
+use Rattle.query_engine.specs.declared.selected.ItemColumn.TheVariants as item
+use Rattle.query_engine.specs.declared.selected.SelectedColumn.{SelectedColumn}
+use Rattle.query_engine.specs.declared.selected.SelectedColumn.TheVariants.{Numbers, Words, Texts}
+use Rattle.query_engine.specs.declared.selected.SelectedPart.{SelectedPart}
+
+-- ---- items
+
+-- the column that an item is of; `count(*)` is of none
+abbrev pub column_of : PickItem → Option ℕ
+column_of (pick.Plain col) = Some col
+column_of pick.CountAll = None
+column_of (pick.Least col) = Some col
+column_of (pick.Greatest col) = Some col
+column_of (pick.Sum col) = Some col
+
+-- the item's column is in the schema
+abbrev pub FitsItem : List Column → PickItem → Type 0
+FitsItem schema picked = IfSome (column_of picked) (λ col. col < length schema)
+
+abbrev pub cell_at : List Cell → Option ℕ → Cell
+cell_at cells None = Null
+cell_at cells (Some col) = slice_index_or cells col Null
+
+-- of a record one cell for each item: that of the item's column, and null for `count(*)`
+abbrev pub selected_cells : List PickItem → List Cell → List Cell
+selected_cells items cells = map (λ picked. cell_at cells (column_of picked)) items
+
+-- ---- runs of chosen rows
+
+-- neighbouring rows of the part at a place, from the first up to but not with `past`
+pub record PartRun : Type 0 where
+  pub place : ℕ
+  pub first : ℕ
+  pub past : ℕ
+
+abbrev pub run_at : ℕ → ℕ × ℕ → PartRun
+run_at place run = record { place = place; first = run.0; past = run.1 }
+
+-- the runs of the rows that are chosen in each of these parts, the first of which has this place
+unfoldable pub runs_over : ℕ → List (List Bool) → List PartRun
+runs_over place [] = []
+runs_over place (rows ∷ chosen) = map (run_at place) (runs_of rows) ++ runs_over (place + 1) chosen
+
+abbrev pub rows_in_run : PartRun → ℕ
+rows_in_run run = run.past - run.first
+
+-- the first rows of runs, at most so many
+unfoldable pub first_runs : ℕ → List PartRun → List PartRun
+first_runs room [] = []
+first_runs room (run ∷ runs) =
+    if nat_le (rows_in_run run) room then run ∷ first_runs (room - rows_in_run run) runs
+    else if nat_le 1 room then record run { past = run.first + room } ∷ [] else []
+
+-- those behind them
+unfoldable pub later_runs : ℕ → List PartRun → List PartRun
+later_runs room [] = []
+later_runs room (run ∷ runs) =
+    if nat_le (rows_in_run run) room then later_runs (room - rows_in_run run) runs else record run { first = run.first + room } ∷ runs
+
+-- ---- their records
+
+abbrev pub records_of : Option Partition → List (List Cell)
+records_of None = []
+records_of (Some part) = part.records
+
+-- the records of a run
+abbrev pub records_in : List Partition → PartRun → List (List Cell)
+records_in parts run = take (rows_in_run run) (drop run.first (records_of (slice_get parts run.place)))
+
+-- of each record of these runs the selected cells
+unfoldable pub selected_in : List PickItem → List Partition → List PartRun → List (List Cell)
+selected_in items parts runs = map (selected_cells items) (flat_map (records_in parts) runs)
+
+-- ---- open columns
+
+-- the rows that have a value
+abbrev pub mask_of : SelectedColumn → List Bool
+mask_of (Numbers column) = column.mask
+mask_of (Words codes words) = codes.mask
+mask_of (Texts text) = text.mask
+
+-- how many rows there are
+abbrev pub rows_in : SelectedColumn → ℕ
+rows_in (Numbers column) = column.rows
+rows_in (Words codes words) = codes.rows
+rows_in (Texts text) = text.rows
+
+-- the column of that place is open, with its words where it is a category
+abbrev pub IsColumnOf : Option Files → Placed → SelectedColumn → Type 0
+IsColumnOf files p (Numbers column) = IsNumbersOf files p column
+IsColumnOf files p (Words codes words) =
+    IsNumbersOf files p codes × (p.column.ty ≡ Category) × IfSome files (λ m. words_in (file_at m (words_file p)) ≡ Ok words)
+IsColumnOf files p (Texts text) = IsTextsOf files p text
+
+-- of an item the column that an item before it has, or its own, which is open
+abbrev pub IsItemColumn : Option Files → List ℕ → PartMeta → List PickItem → Option ℕ → ItemColumn → Type 0
+IsItemColumn files dir part items None item.Nothing = ⊤
+IsItemColumn files dir part items (Some col) (item.Same place) = (earlier : PickItem) × (slice_get items place ≡ Some earlier) × (column_of earlier ≡ Some col)
+IsItemColumn files dir part items (Some col) (item.Own column) = IsColumnOf files (placed_at dir part col) column
+IsItemColumn files dir part items col column = ⊥
+
+-- in the part each item has its column
+pub record IsOpenedOf (files : Option Files) (dir : List ℕ) (part : PartMeta) (items : List PickItem) (columns : List ItemColumn) : Type 0 where
+  pub number : length columns ≡ length items
+  pub each : (place : ℕ) (picked : PickItem) (column : ItemColumn) → slice_get items place ≡ Some picked → slice_get columns place ≡ Some column
+      → IsItemColumn files dir part (take place items) (column_of picked) column
+
+-- the same of each part that the dataset lists
+pub record AreOpenIn (files : Option Files) (dataset : Dataset) (items : List PickItem) (opened : List SelectedPart) : Type 0 where
+  pub number : length opened ≡ length dataset.parts
+  pub each : (place : ℕ) (part : PartMeta) (columns : SelectedPart) → slice_get dataset.parts place ≡ Some part → slice_get opened place ≡ Some columns
+      → IsOpenedOf files dataset.dir part items columns.columns
+
+-- ---- cells
+
+-- The files have the cells of this column, and the mask is of those that aren't null.
+abbrev pub HasValues : Option Files → SelectedColumn → PartColumn → Type 0
+HasValues files (Numbers column) c = HasNumbers files column (stored_numbers c.ty c.cells)
+HasValues files (Words codes words) c = HasNumbers files codes (stored_numbers c.ty c.cells) × (words ≡ dictionary_of c.cells)
+HasValues files (Texts text) c = HasTexts files text (texts_of c.cells)
+
+pub record HasCells (files : Option Files) (column : SelectedColumn) (c : PartColumn) : Type 0 where
+  pub values : HasValues files column c
+  pub mask : mask_of column ≡ present_rows c
+
+-- the cells of neighbouring rows
+abbrev pub cells_between : PartColumn → ℕ → ℕ → List Cell
+cells_between c first past = take (past - first) (drop first c.cells)
+
+-- each cell put behind those of its row
+abbrev pub put_last : List Cell → List (List Cell) → List (List Cell)
+put_last [] rows = rows
+put_last (cell ∷ cells) [] = []
+put_last (cell ∷ cells) (row ∷ rows) = (row ++ cell ∷ []) ∷ put_last cells rows
+
+-- ---- reads
+
+-- the read of neighbouring rows
+abbrev pub look_of : SelectedColumn → ℕ → ℕ → Look
+look_of (Numbers column) first past = numbers_look column (first, past)
+look_of (Words codes words) first past = numbers_look codes (first, past)
+look_of (Texts text) first past = texts_look text (first, past)
+
+-- For some item the read is of a file of its column that has none of its values, or of values on rows that are chosen.
+abbrev pub is_selected_of : List ℕ → List Column → Plan → Look → Partition → Option ℕ → Bool
+is_selected_of dir schema plan look part None = false
+is_selected_of dir schema plan look part (Some col) =
+    is_free_of dir part.number (column_at schema part col) look
+    || is_of_rows dir part.number (column_at schema part col) (rows_of (rows_that_hold plan part)) look
+
+unfoldable pub is_selected_in : List ℕ → List Column → Plan → List PickItem → Look → Partition → Bool
+is_selected_in dir schema plan items look part = list_any (λ picked. is_selected_of dir schema plan look part (column_of picked)) items
+
+-- the same in some part
+unfoldable pub is_selected_over : Dataset → List Partition → Plan → List PickItem → Look → Bool
+is_selected_over dataset parts plan items look = list_any (is_selected_in dataset.dir dataset.schema plan items look) parts
+
+-- Over every store: the read is of a file of the column of an item, in a part that the dataset lists.
+pub record IsItemLook (dataset : Dataset) (items : List PickItem) (kinds : FileKind → Type 0) (look : Look) : Type 0 where
+  pub place : ℕ
+  pub part : PartMeta
+  pub listed : slice_get dataset.parts place ≡ Some part
+  pub item_place : ℕ
+  pub picked : PickItem
+  pub of_item : slice_get items item_place ≡ Some picked
+  pub col : ℕ
+  pub of_column : column_of picked ≡ Some col
+  pub kind : FileKind
+  pub is_kind : kinds kind
+  pub named : look.name ≡ file_name dataset.dir part.number (Some (slice_index_or dataset.schema col no_column).name) kind
+
+-- to open it its mask is read, a text column's starts, and a category's words; of its values none
+abbrev pub IsOpeningKind : FileKind → Type 0
+IsOpeningKind file.Mask = ⊤
+IsOpeningKind file.Starts = ⊤
+IsOpeningKind file.Words = ⊤
+IsOpeningKind kind = ⊥
+
+abbrev pub IsOpening : Dataset → List PickItem → Look → Type 0
+IsOpening dataset items look = IsItemLook dataset items IsOpeningKind look
+
+-- and then its values alone
+abbrev pub IsValuesKind : FileKind → Type 0
+IsValuesKind file.Values = ⊤
+IsValuesKind kind = ⊥
+
+-- ---- damages
+
+-- In a part that the dataset lists, a file of the column of an item is refused so.
+pub record IsSelectedDamaged (files : Option Files) (dataset : Dataset) (items : List PickItem) (found : Damage) : Type 0 where
+  pub place : ℕ
+  pub part : PartMeta
+  pub listed : slice_get dataset.parts place ≡ Some part
+  pub item_place : ℕ
+  pub picked : PickItem
+  pub of_item : slice_get items item_place ≡ Some picked
+  pub col : ℕ
+  pub of_column : column_of picked ≡ Some col
+  pub fault : EvalFault
+  pub is : StopsAt files (placed_at dataset.dir part col) fault
+  pub told : damage_of dataset part fault ≡ Some found

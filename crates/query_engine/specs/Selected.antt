@@ -1,6 +1,6 @@
 -- The columns that a query selects: their cells in the chosen rows, what is read of them, and their damages.
-use Rattle.std.specs.Prelude.{◌≡◌, ⊤, ℕ, ◌+◌, ◌-◌, ◌<◌, ◌||◌, Bool, false, List, [], ◌∷◌, ◌++◌, length, map, drop, take, Option, Some, None, Ok, IfSome, slice_get, slice_index_or, if◌then◌else◌, nat_le}
-use Rattle.std.specs.List.{flat_map, list_any}
+use Rattle.std.specs.Prelude.{◌≡◌, ⊤, ℕ, ◌+◌, ◌-◌, ◌<◌, ◌||◌, Bool, true, false, List, [], ◌∷◌, ◌++◌, length, map, drop, take, Option, Some, None, Ok, IfSome, slice_get, slice_index_or, if◌then◌else◌, nat_le, ◌==◌, ◌≤◌}
+use Rattle.std.specs.List.{AllByRecursion, AllZip, flat_map, list_any, sum_by}
 use Rattle.fb_outside.specs.Files.{Files, file_at}
 use Rattle.fb_outside.specs.Reads.{Look}
 use Rattle.fb_types.specs.declared.cells.Cell.{Cell}
@@ -15,11 +15,13 @@ use Rattle.column_file.specs.declared.column.ColumnRef.{ColumnRef}
 use Rattle.text_column.specs.OpenedDictionary.{dictionary_of as words_in}
 use Rattle.text_column.specs.declared.text_ref.TextRef.{TextRef}
 use Rattle.wah_iter.specs.Rows.{rows_of, runs_of}
+use Rattle.wah_iter.specs.Walks.{RunsLeft}
+use Rattle.wah_words.specs.Spelling.{words_of}
 use Rattle.query_grammar.specs.declared.picking.PickItem.{PickItem}
 use Rattle.query_grammar.specs.declared.picking.PickItem.TheVariants as pick
 use Rattle.where_plan.specs.declared.plan.Plan.{Plan}
 use Rattle.candidates.specs.Numbers.{HasNumbers, numbers_look}
-use Rattle.candidates.specs.Texts.{HasTexts, texts_look}
+use Rattle.candidates.specs.Texts.{HasTexts, have_bytes, texts_look}
 use Rattle.world.specs.Cells.{dictionary_of, stored_numbers, texts_of}
 use Rattle.world.specs.World.{Partition}
 use Rattle.dataset.specs.Damage.{Damage}
@@ -32,6 +34,8 @@ use Rattle.two_stage.specs.Kept.{IsNumbersOf, IsTextsOf}
 use Rattle.two_stage.specs.Placed.{Placed, placed_at, words_file}
 use Rattle.two_stage.specs.declared.fault.EvalFault.{EvalFault}
 use Rattle.query_engine.specs.Damage.{damage_of}
+use Rattle.query_engine.specs.Present.{TellsFrom}
+use Rattle.query_engine.specs.declared.cells.RowSpan.{RowSpan}
 use Rattle.query_engine.specs.declared.selected.ItemColumn.{ItemColumn}
 use Rattle.query_engine.specs.declared.selected.ItemColumn.TheVariants as item
 use Rattle.query_engine.specs.declared.selected.SelectedColumn.{SelectedColumn}
@@ -71,40 +75,52 @@ pub record PartRun : Type 0 where
 abbrev pub run_at : ℕ → ℕ × ℕ → PartRun
 run_at place run = record { place = place; first = run.0; past = run.1 }
 
--- the runs of the rows that are chosen in each of these parts, the first of which has this place
+-- the runs of the rows that are chosen in the part at a place
+abbrev pub runs_in : ℕ → List Bool → List PartRun
+runs_in place rows = map (run_at place) (runs_of rows)
+
+-- the same in each of some parts, the first of which has this place
 unfoldable pub runs_over : ℕ → List (List Bool) → List PartRun
 runs_over place [] = []
-runs_over place (rows ∷ chosen) = map (run_at place) (runs_of rows) ++ runs_over (place + 1) chosen
+runs_over place (rows ∷ chosen) = runs_in place rows ++ runs_over (place + 1) chosen
 
-abbrev pub rows_in_run : PartRun → ℕ
-rows_in_run run = run.past - run.first
+abbrev pub rows_of_run : PartRun → ℕ
+rows_of_run run = run.past - run.first
+
+abbrev pub rows_of_runs : List PartRun → ℕ
+rows_of_runs runs = sum_by rows_of_run runs
 
 -- the first rows of runs, at most so many
 unfoldable pub first_runs : ℕ → List PartRun → List PartRun
 first_runs room [] = []
 first_runs room (run ∷ runs) =
-    if nat_le (rows_in_run run) room then run ∷ first_runs (room - rows_in_run run) runs
+    if nat_le (rows_of_run run) room then run ∷ first_runs (room - rows_of_run run) runs
     else if nat_le 1 room then record run { past = run.first + room } ∷ [] else []
 
 -- those behind them
 unfoldable pub later_runs : ℕ → List PartRun → List PartRun
 later_runs room [] = []
 later_runs room (run ∷ runs) =
-    if nat_le (rows_in_run run) room then later_runs (room - rows_in_run run) runs else record run { first = run.first + room } ∷ runs
+    if nat_le (rows_of_run run) room then later_runs (room - rows_of_run run) runs else record run { first = run.first + room } ∷ runs
 
 -- ---- their records
 
-abbrev pub records_of : Option Partition → List (List Cell)
-records_of None = []
-records_of (Some part) = part.records
+abbrev pub records_at : Option Partition → List (List Cell)
+records_at None = []
+records_at (Some part) = part.records
 
--- the records of a run
-abbrev pub records_in : List Partition → PartRun → List (List Cell)
-records_in parts run = take (rows_in_run run) (drop run.first (records_of (slice_get parts run.place)))
+-- the records of a run in its part
+abbrev pub records_of_run : Partition → PartRun → List (List Cell)
+records_of_run part run = take (rows_of_run run) (drop run.first part.records)
 
--- of each record of these runs the selected cells
-unfoldable pub selected_in : List PickItem → List Partition → List PartRun → List (List Cell)
-selected_in items parts runs = map (selected_cells items) (flat_map (records_in parts) runs)
+-- of each record of runs of a part the selected cells
+unfoldable pub selected_of : List PickItem → Partition → List PartRun → List (List Cell)
+selected_of items part runs = map (selected_cells items) (flat_map (records_of_run part) runs)
+
+-- the same of runs of the parts at their places
+unfoldable pub selected_over : List PickItem → List Partition → List PartRun → List (List Cell)
+selected_over items parts runs =
+    map (selected_cells items) (flat_map (λ run. take (rows_of_run run) (drop run.first (records_at (slice_get parts run.place)))) runs)
 
 -- ---- open columns
 
@@ -176,6 +192,32 @@ look_of (Numbers column) first past = numbers_look column (first, past)
 look_of (Words codes words) first past = numbers_look codes (first, past)
 look_of (Texts text) first past = texts_look text (first, past)
 
+-- texts that are all empty take no read
+abbrev pub takes_read : SelectedColumn → ℕ → ℕ → Bool
+takes_read (Numbers column) first past = true
+takes_read (Words codes words) first past = true
+takes_read (Texts text) first past = have_bytes text (first, past)
+
+-- of an item whose column is its own
+abbrev pub looks_of_item : PartRun → ItemColumn → List Look
+looks_of_item run item.Nothing = []
+looks_of_item run (item.Same place) = []
+looks_of_item run (item.Own column) = if takes_read column run.first run.past then look_of column run.first run.past ∷ [] else []
+
+-- of each run each column is read once
+unfoldable pub looks_of_runs : List ItemColumn → List PartRun → List Look
+looks_of_runs columns runs = flat_map (λ run. flat_map (looks_of_item run) columns) runs
+
+-- Over every store: the read is one of these columns in one of these runs.
+pub record IsRunLook (columns : List ItemColumn) (runs : List PartRun) (look : Look) : Type 0 where
+  pub run_place : ℕ
+  pub run : PartRun
+  pub of_run : slice_get runs run_place ≡ Some run
+  pub column_place : ℕ
+  pub column : SelectedColumn
+  pub of_column : slice_get columns column_place ≡ Some (item.Own column)
+  pub is : look ≡ look_of column run.first run.past
+
 -- For some item the read is of a file of its column that has none of its values, or of values on rows that are chosen.
 abbrev pub is_selected_of : List ℕ → List Column → Plan → Look → Partition → Option ℕ → Bool
 is_selected_of dir schema plan look part None = false
@@ -221,16 +263,136 @@ IsValuesKind kind = ⊥
 
 -- ---- damages
 
--- In a part that the dataset lists, a file of the column of an item is refused so.
-pub record IsSelectedDamaged (files : Option Files) (dataset : Dataset) (items : List PickItem) (found : Damage) : Type 0 where
+-- In this part a file of the column of an item is refused so.
+pub record IsPartDamaged (files : Option Files) (dataset : Dataset) (part : PartMeta) (items : List PickItem) (found : Damage) : Type 0 where
   pub place : ℕ
-  pub part : PartMeta
-  pub listed : slice_get dataset.parts place ≡ Some part
-  pub item_place : ℕ
   pub picked : PickItem
-  pub of_item : slice_get items item_place ≡ Some picked
+  pub of_item : slice_get items place ≡ Some picked
   pub col : ℕ
   pub of_column : column_of picked ≡ Some col
   pub fault : EvalFault
   pub is : StopsAt files (placed_at dataset.dir part col) fault
   pub told : damage_of dataset part fault ≡ Some found
+
+-- the same in a part that the dataset lists
+pub record IsSelectedDamaged (files : Option Files) (dataset : Dataset) (items : List PickItem) (found : Damage) : Type 0 where
+  pub place : ℕ
+  pub part : PartMeta
+  pub listed : slice_get dataset.parts place ≡ Some part
+  pub is : IsPartDamaged files dataset part items found
+
+-- ---- walks
+
+-- a walk over the chosen rows of a part: the items, their columns, the runs that are left, and the words of vectors that are still
+-- to look at
+pub record PartLeft : Type 0 where
+  pub dataset : Dataset
+  pub place : ℕ
+  pub part : PartMeta
+  pub items : List PickItem
+  pub columns : List ItemColumn
+  pub runs : List PartRun
+  pub words : ℕ
+
+-- a walk over those of all parts
+pub record BlocksLeft : Type 0 where
+  pub dataset : Dataset
+  pub items : List PickItem
+  pub opened : List SelectedPart
+  pub runs : List PartRun
+  pub words : ℕ
+
+-- how many words the masks of items' own columns have
+abbrev pub mask_words : ItemColumn → ℕ
+mask_words item.Nothing = 0
+mask_words (item.Same place) = 0
+mask_words (item.Own column) = words_of (mask_of column)
+
+-- the columns of a part have its rows
+abbrev pub HasRows : ℕ → ItemColumn → Type 0
+HasRows rows item.Nothing = ⊤
+HasRows rows (item.Same place) = ⊤
+HasRows rows (item.Own column) = (rows_in column ≡ rows) × (length (mask_of column) ≡ rows)
+
+-- of an own column the walk over its mask tells the rows from one on
+abbrev pub IsInStep : ℕ → ItemColumn → Option RunsLeft → Type 0
+IsInStep from (item.Own column) (Some present) = TellsFrom present.runs from (mask_of column)
+IsInStep from (item.Own column) None = ⊥
+IsInStep from item.Nothing present = ⊤
+IsInStep from (item.Same place) present = ⊤
+
+-- the walks over the masks stand at a row or before it
+abbrev pub AreInStep : List ItemColumn → List (Option RunsLeft) → ℕ → Type 0
+AreInStep columns presents from = AllZip (IsInStep from) columns presents
+
+-- the walk over a mask has so many words to look at
+abbrev pub present_words : Option RunsLeft → ℕ
+present_words None = 0
+present_words (Some present) = present.words
+
+-- a run that is left, where it has a row, before those that come
+abbrev pub with_left : (first past : ℕ) → List (ℕ × ℕ) → List (ℕ × ℕ)
+with_left first past runs = if first == past then runs else (first, past) ∷ runs
+
+-- the runs rise from a row on, and end by another
+abbrev pub AreRunsFrom : (from to : ℕ) → List (ℕ × ℕ) → Type 0
+AreRunsFrom from to [] = from ≤ to
+AreRunsFrom from to (run ∷ runs) = (from ≤ run.0) × (run.0 < run.1) × AreRunsFrom run.1 to runs
+
+-- the next rows of runs, at most so many, come; none where there is none
+abbrev pub Takes : (room place : ℕ) → List PartRun → Option RowSpan → List PartRun → Type 0
+Takes room place old None new = (old ≡ []) × (new ≡ [])
+Takes room place old (Some span) new =
+    (first_runs room old ≡ record { place = place; first = span.first; past = span.past } ∷ first_runs (room - (span.past - span.first)) new)
+    × (later_runs room old ≡ later_runs (room - (span.past - span.first)) new)
+    × (span.first < span.past) × (span.past ≤ span.first + room)
+
+-- ---- all parts
+
+-- For each part that the dataset lists its chosen rows, and the open columns of the items, each of as many rows as the part has.
+pub record AreForParts (dataset : Dataset) (items : List PickItem) (chosen : List (List Bool)) (opened : List SelectedPart) : Type 0 where
+  pub chosen_each : map length chosen ≡ map (λ (part : PartMeta). part.rows) dataset.parts
+  pub number : length opened ≡ length dataset.parts
+  pub each : (place : ℕ) (part : PartMeta) (columns : SelectedPart) → slice_get dataset.parts place ≡ Some part → slice_get opened place ≡ Some columns
+      → (length columns.columns ≡ length items) × AllByRecursion (HasRows part.rows) columns.columns
+
+-- how many words the vectors of these parts have: of the chosen rows, and the masks of the columns
+abbrev pub words_over : List (List Bool) → List SelectedPart → ℕ
+words_over [] opened = 0
+words_over (rows ∷ chosen) [] = 0
+words_over (rows ∷ chosen) (part ∷ opened) = words_of rows + sum_by mask_words part.columns + words_over chosen opened
+
+abbrev pub runs_left : Option PartLeft → List PartRun
+runs_left None = []
+runs_left (Some walk) = walk.runs
+
+abbrev pub words_left : Option PartLeft → ℕ
+words_left None = 0
+words_left (Some walk) = walk.words
+
+-- the walk is over a part of these, with its columns
+abbrev pub IsWalkOf : Dataset → List PickItem → List SelectedPart → Option PartLeft → Type 0
+IsWalkOf dataset items opened None = ⊤
+IsWalkOf dataset items opened (Some walk) =
+    (walk.dataset ≡ dataset) × (walk.items ≡ items)
+    × ((columns : SelectedPart) × (slice_get opened walk.place ≡ Some columns) × (walk.columns ≡ columns.columns))
+
+abbrev pub columns_at : Option SelectedPart → List ItemColumn
+columns_at None = []
+columns_at (Some part) = part.columns
+
+-- the reads of runs, each in its part
+unfoldable pub looks_over : List SelectedPart → List PartRun → List Look
+looks_over opened runs = flat_map (λ run. flat_map (looks_of_item run) (columns_at (slice_get opened run.place))) runs
+
+-- Over every store: the read is of an open column of one of these runs, in its part.
+pub record IsRunLookOver (opened : List SelectedPart) (runs : List PartRun) (look : Look) : Type 0 where
+  pub run_place : ℕ
+  pub run : PartRun
+  pub of_run : slice_get runs run_place ≡ Some run
+  pub part : SelectedPart
+  pub of_part : slice_get opened run.place ≡ Some part
+  pub column_place : ℕ
+  pub column : SelectedColumn
+  pub of_column : slice_get part.columns column_place ≡ Some (item.Own column)
+  pub is : look ≡ look_of column run.first run.past

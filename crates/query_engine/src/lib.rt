@@ -24,7 +24,7 @@ pub use fault::AskFault;
 pub use laws::{
     estimates_enclose_hits, the_damage_of_columns, the_hits_of_clauses, the_parts_of_a_world,
 };
-pub use row_blocks::{RowBlocks, Selection};
+pub use row_blocks::RowBlocks;
 pub use selected::{SelectedPart, open_selected};
 
 #[cfg(test)]

@@ -4,7 +4,7 @@ ghost use Rattle.where_plan.specs.Plans.{FitsSchema};
 
 use crate::sample_files::{DIGITS, File, NUMBERS, WORDS};
 use crate::tests::{Damage, dataset_at, named, planned, store};
-use crate::{AskFault, RowBlocks, Selection, choose, open_selected};
+use crate::{AskFault, RowBlocks, choose, open_selected};
 use dataset::{DamageKind, Dataset};
 use fb_outside::{FailAt, MemStore, Store};
 use fb_types::Cell;
@@ -74,13 +74,8 @@ fn blocks_of<R: Abort + AllocGlobal, L: Ledger>(
     let mut steps = Steps::<L>::new(blank);
     let chosen = choose(rt.alloc(), store, dataset, plan, &mut steps)?;
     let opened = open_selected(rt.alloc(), store, dataset, items)?;
-    let selection = Selection {
-        dataset,
-        items,
-        chosen: chosen.parts.as_slice(),
-        parts: opened.as_slice(),
-    };
-    let mut walk = RowBlocks::over(rt.alloc(), selection)?;
+    let chosen = chosen.parts.as_slice();
+    let mut walk = RowBlocks::over(rt.alloc(), dataset, items, chosen, opened.as_slice())?;
     let mut blocks = (Vec::new(rt.alloc()), Vec::new(rt.alloc()));
     for _ in 0..9 {
         let rows = walk.advance(store, &mut steps)?;

@@ -1,17 +1,20 @@
 -- The columns that a query selects: their cells in the chosen rows, what is read of them, and their damages.
-use Rattle.std.specs.Prelude.{◌≡◌, ⊤, ℕ, ◌+◌, ◌-◌, ◌<◌, ◌||◌, Bool, true, false, List, [], ◌∷◌, ◌++◌, length, map, drop, take, Option, Some, None, Ok, IfSome, slice_get, slice_index_or, if◌then◌else◌, nat_le, ◌==◌, ◌≤◌}
+use Rattle.std.specs.Prelude.{◌≡◌, ⊤, ⊥, ℕ, ℤ, pos, negsuc, Vec, IsSome, ◌+◌, ◌-◌, ◌<◌, ◌||◌, Bool, true, false, List, [], ◌∷◌, ◌++◌, length, map, drop, take, Option, Some, None, Ok, IfSome, slice_get, slice_index_or, if◌then◌else◌, nat_le, ◌==◌, ◌≤◌}
 use Rattle.std.specs.List.{AllByRecursion, AllZip, flat_map, list_any, sum_by}
 use Rattle.fb_outside.specs.Files.{Files, file_at}
 use Rattle.fb_outside.specs.Reads.{Look}
 use Rattle.fb_types.specs.declared.cells.Cell.{Cell}
-use Rattle.fb_types.specs.declared.cells.Cell.TheVariants.{Null}
+use Rattle.fb_types.specs.declared.cells.Cell.TheVariants.{Null, Word}
 use Rattle.fb_types.specs.declared.schemas.Column.{Column}
 use Rattle.fb_types.specs.declared.types.ColType.TheVariants.{Category}
 use Rattle.part_meta.specs.FileNames.{file_name}
 use Rattle.part_meta.specs.declared.names.FileKind.{FileKind}
 use Rattle.part_meta.specs.declared.names.FileKind.TheVariants as file
 use Rattle.part_meta.specs.declared.part.PartMeta.{PartMeta}
+use Rattle.column_file.specs.Opening.{mask_in}
 use Rattle.column_file.specs.declared.column.ColumnRef.{ColumnRef}
+use Rattle.fb_types.specs.Types.{width_of}
+use Rattle.text_column.specs.Words.{word_in}
 use Rattle.text_column.specs.OpenedDictionary.{dictionary_of as words_in}
 use Rattle.text_column.specs.declared.text_ref.TextRef.{TextRef}
 use Rattle.wah_iter.specs.Rows.{rows_of, runs_of}
@@ -31,7 +34,7 @@ use Rattle.part_meaning.specs.Columns.{PartColumn, cell_of_row, column_at, no_co
 use Rattle.part_meaning.specs.Files.{is_free_of, is_of_rows}
 use Rattle.two_stage.specs.Faults.{StopsAt}
 use Rattle.two_stage.specs.Kept.{IsNumbersOf, IsTextsOf}
-use Rattle.two_stage.specs.Placed.{Placed, placed_at, words_file}
+use Rattle.two_stage.specs.Placed.{Placed, mask_file, placed_at, words_file}
 use Rattle.two_stage.specs.declared.fault.EvalFault.{EvalFault}
 use Rattle.query_engine.specs.Damage.{damage_of}
 use Rattle.query_engine.specs.Present.{TellsFrom}
@@ -136,12 +139,19 @@ rows_in (Numbers column) = column.rows
 rows_in (Words codes words) = codes.rows
 rows_in (Texts text) = text.rows
 
--- the column of that place is open, with its words where it is a category
-abbrev pub IsColumnOf : Option Files → Placed → SelectedColumn → Type 0
-IsColumnOf files p (Numbers column) = IsNumbersOf files p column
-IsColumnOf files p (Words codes words) =
+-- the values file of the column, with a category's words or the starts of texts
+abbrev pub IsValuesOf : Option Files → Placed → SelectedColumn → Type 0
+IsValuesOf files p (Numbers column) = IsNumbersOf files p column
+IsValuesOf files p (Words codes words) =
     IsNumbersOf files p codes × (p.column.ty ≡ Category) × IfSome files (λ m. words_in (file_at m (words_file p)) ≡ Ok words)
-IsColumnOf files p (Texts text) = IsTextsOf files p text
+IsValuesOf files p (Texts text) = IsTextsOf files p text
+
+-- The column of that place is open, with its mask.
+pub record IsColumnOf (files : Option Files) (p : Placed) (column : SelectedColumn) : Type 0 where
+  pub values : IsValuesOf files p column
+  pub rows : rows_in column ≡ p.rows
+  pub each : length (mask_of column) ≡ p.rows
+  pub mask : IfSome files (λ m. mask_in p.rows (file_at m (mask_file p)) ≡ Ok (mask_of column))
 
 -- of an item the column that an item before it has, or its own, which is open
 abbrev pub IsItemColumn : Option Files → List ℕ → PartMeta → List PickItem → Option ℕ → ItemColumn → Type 0
@@ -178,6 +188,25 @@ pub record HasCells (files : Option Files) (column : SelectedColumn) (c : PartCo
 abbrev pub cells_between : PartColumn → ℕ → ℕ → List Cell
 cells_between c first past = take (past - first) (drop first c.cells)
 
+-- what was read of each row as a cell, null where the row has no value
+abbrev pub present_cells : {X : Type 0} → (X → Cell) → List Bool → List X → List Cell
+present_cells cell bits [] = []
+present_cells cell [] (x ∷ xs) = Null ∷ present_cells cell [] xs
+present_cells cell (bit ∷ bits) (x ∷ xs) = (if bit then cell x else Null) ∷ present_cells cell bits xs
+
+abbrev pub word_or_null : Option (List ℕ) → Cell
+word_or_null None = Null
+word_or_null (Some word) = Word word
+
+-- the word of a code, null where it is of none
+abbrev pub word_cell : List (List ℕ) → ℤ → Cell
+word_cell words (pos code) = word_or_null (word_in words code)
+word_cell words (negsuc code) = Null
+
+-- what rows hold
+abbrev pub rows_items : {A : Type 0} → List (Vec Cell A) → List (List Cell)
+rows_items rows = map (λ row. row.items) rows
+
 -- each cell put behind those of its row
 abbrev pub put_last : List Cell → List (List Cell) → List (List Cell)
 put_last [] rows = rows
@@ -198,11 +227,14 @@ takes_read (Numbers column) first past = true
 takes_read (Words codes words) first past = true
 takes_read (Texts text) first past = have_bytes text (first, past)
 
+abbrev pub look_if : SelectedColumn → ℕ → ℕ → List Look
+look_if column first past = if takes_read column first past then look_of column first past ∷ [] else []
+
 -- of an item whose column is its own
 abbrev pub looks_of_item : PartRun → ItemColumn → List Look
 looks_of_item run item.Nothing = []
 looks_of_item run (item.Same place) = []
-looks_of_item run (item.Own column) = if takes_read column run.first run.past then look_of column run.first run.past ∷ [] else []
+looks_of_item run (item.Own column) = look_if column run.first run.past
 
 -- of each run each column is read once
 unfoldable pub looks_of_runs : List ItemColumn → List PartRun → List Look
@@ -232,8 +264,21 @@ is_selected_in dir schema plan items look part = list_any (λ picked. is_selecte
 unfoldable pub is_selected_over : Dataset → List Partition → Plan → List PickItem → Look → Bool
 is_selected_over dataset parts plan items look = list_any (is_selected_in dataset.dir dataset.schema plan items look) parts
 
--- Over every store: the read is of a file of the column of an item, in a part that the dataset lists.
-pub record IsItemLook (dataset : Dataset) (items : List PickItem) (kinds : FileKind → Type 0) (look : Look) : Type 0 where
+-- to open a column its mask is read, and the starts of texts or the words of a category; none of its values
+abbrev pub IsOpeningKind : FileKind → Type 0
+IsOpeningKind file.Mask = ⊤
+IsOpeningKind file.Starts = ⊤
+IsOpeningKind file.Words = ⊤
+IsOpeningKind kind = ⊥
+
+-- the read is of such a file of the column
+pub record IsOpeningOf (p : Placed) (look : Look) : Type 0 where
+  pub kind : FileKind
+  pub is_kind : IsOpeningKind kind
+  pub named : look.name ≡ file_name p.dir p.number (Some p.column.name) kind
+
+-- Over every store: the read opens the column of an item, in a part that the dataset lists.
+pub record IsOpening (dataset : Dataset) (items : List PickItem) (look : Look) : Type 0 where
   pub place : ℕ
   pub part : PartMeta
   pub listed : slice_get dataset.parts place ≡ Some part
@@ -242,24 +287,7 @@ pub record IsItemLook (dataset : Dataset) (items : List PickItem) (kinds : FileK
   pub of_item : slice_get items item_place ≡ Some picked
   pub col : ℕ
   pub of_column : column_of picked ≡ Some col
-  pub kind : FileKind
-  pub is_kind : kinds kind
-  pub named : look.name ≡ file_name dataset.dir part.number (Some (slice_index_or dataset.schema col no_column).name) kind
-
--- to open it its mask is read, a text column's starts, and a category's words; of its values none
-abbrev pub IsOpeningKind : FileKind → Type 0
-IsOpeningKind file.Mask = ⊤
-IsOpeningKind file.Starts = ⊤
-IsOpeningKind file.Words = ⊤
-IsOpeningKind kind = ⊥
-
-abbrev pub IsOpening : Dataset → List PickItem → Look → Type 0
-IsOpening dataset items look = IsItemLook dataset items IsOpeningKind look
-
--- and then its values alone
-abbrev pub IsValuesKind : FileKind → Type 0
-IsValuesKind file.Values = ⊤
-IsValuesKind kind = ⊥
+  pub is : IsOpeningOf (placed_at dataset.dir part col) look
 
 -- ---- damages
 
@@ -308,11 +336,17 @@ mask_words item.Nothing = 0
 mask_words (item.Same place) = 0
 mask_words (item.Own column) = words_of (mask_of column)
 
+-- its numbers have a width, and codes are those of a category
+abbrev pub HasWidth : SelectedColumn → Type 0
+HasWidth (Numbers column) = IsSome (width_of column.ty)
+HasWidth (Words codes words) = codes.ty ≡ Category
+HasWidth (Texts text) = ⊤
+
 -- the columns of a part have its rows
 abbrev pub HasRows : ℕ → ItemColumn → Type 0
 HasRows rows item.Nothing = ⊤
 HasRows rows (item.Same place) = ⊤
-HasRows rows (item.Own column) = (rows_in column ≡ rows) × (length (mask_of column) ≡ rows)
+HasRows rows (item.Own column) = HasWidth column × (rows_in column ≡ rows) × (length (mask_of column) ≡ rows)
 
 -- of an own column the walk over its mask tells the rows from one on
 abbrev pub IsInStep : ℕ → ItemColumn → Option RunsLeft → Type 0

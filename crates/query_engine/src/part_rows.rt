@@ -19,7 +19,6 @@ use crate::fault::AskFault;
 use crate::listed::listed_part;
 use crate::present::Present;
 use crate::selected::{ItemColumn, SelectedPart, column_of};
-use column_file::MAX_ROWS_READ;
 use dataset::Dataset;
 use fb_outside::Store;
 use fb_types::Cell;
@@ -112,38 +111,40 @@ impl<'a> PartRows<'a> {
         })
     }
 
-    /// Puts the next chosen rows behind those that are there, until these are 4,096 or the part has no more. Of each row there is
-    /// one cell for each item: that of the item's column, and null for `count(*)`. Each column is read once, on these rows alone,
-    /// and neighbouring rows are read at once. `block` is what numbers are read into.
+    /// Puts the next chosen rows behind those that are there, until these are so many or the part has no more. Of each row there
+    /// is one cell for each item: that of the item's column, and null for `count(*)`. Of each run of neighbouring rows each column
+    /// is read once, and of no other row. `block` is what numbers are read into.
     pub(crate) fn fill<S: Store, L: Ledger>(
         &mut self,
         store: &mut S,
         block: &mut [i128],
+        until: usize,
         rows: &mut Vec<Items<Cell>>,
         steps: &mut Steps<L>,
     ) -> Result<(), AskFault>
         requires opened { IsOpenedOf (S.files store.old) self.old.dataset.dir self.old.part self.old.items self.old.columns }
         requires block { length block.old ≡ 4096 }
-        requires room { length rows.old.items ≤ 4096 }
+        requires few { until ≤ 4096 }
+        requires room { length rows.old.items ≤ until }
         ensures cause { HasCause (S.faults store.old) (S.faults store.new) (IsErrOf result AskFault.Store) }
         ensures files { SameFiles (S.files store.old) (S.files store.new) }
         ensures stop { IfErr result (λ fault. IfDamaged fault (IsPartDamaged (S.files store.old) self.old.dataset self.old.part self.old.items)) }
-        ensures reads { AddsOnly (IsRunLook self.old.columns (first_runs (4096 - length rows.old.items) self.old.runs)) (S.reads store.old) (S.reads store.new) }
+        ensures reads { AddsOnly (IsRunLook self.old.columns (first_runs (until - length rows.old.items) self.old.runs)) (S.reads store.old) (S.reads store.new) }
         ensures same { (self.new.dataset ≡ self.old.dataset) × (self.new.place ≡ self.old.place) × (self.new.items ≡ self.old.items) × (self.new.columns ≡ self.old.columns) }
         ensures block { length block.new ≡ 4096 }
-        ensures left { OnOk result (self.new.runs ≡ later_runs (4096 - length rows.old.items) self.old.runs) }
-        ensures count { OnOk result (length rows.new.items ≡ min 4096 (length rows.old.items + rows_of_runs self.old.runs)) }
+        ensures left { OnOk result (self.new.runs ≡ later_runs (until - length rows.old.items) self.old.runs) }
+        ensures count { OnOk result (length rows.new.items ≡ min until (length rows.old.items + rows_of_runs self.old.runs)) }
         ensures each { OnOk result (AddsAll (S.files store.old) (S.reads store.old) (S.reads store.new)
-            (looks_of_runs self.old.columns (first_runs (4096 - length rows.old.items) self.old.runs))) }
+            (looks_of_runs self.old.columns (first_runs (until - length rows.old.items) self.old.runs))) }
         ensures steps { steps.new + self.new.words ≡ steps.old + self.old.words }
 
         // Where the files rest for a partition.
         ensures rows { OnOk result ((p : Partition) → IsPartAt (S.files store.old) self.old.dataset.dir self.old.part p
-            → rows.new.items ≡ rows.old.items ++ selected_of self.old.items p (first_runs (4096 - length rows.old.items) self.old.runs)) }
+            → rows.new.items ≡ rows.old.items ++ selected_of self.old.items p (first_runs (until - length rows.old.items) self.old.runs)) }
         ensures whole { IfErr result (λ fault. (p : Partition) → IsPartAt (S.files store.old) self.old.dataset.dir self.old.part p → NoDamage fault) }
     {
-        while rows.len() < MAX_ROWS_READ {
-            let room = (MAX_ROWS_READ - rows.len()) as u32;
+        while rows.len() < until {
+            let room = (until - rows.len()) as u32;
             let Some(span) = self.next_span(room, steps) else {
                 break;
             };

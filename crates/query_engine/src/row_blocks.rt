@@ -39,6 +39,8 @@ pub struct RowBlocks<'a> {
     /// The place of the part after the one that is walked.
     next: usize,
     walk: Option<PartRows<'a>>,
+    /// How many rows are still wanted at most.
+    most: u64,
     /// What numbers are read into.
     block: Vec<i128>,
 }
@@ -47,7 +49,7 @@ impl<'a> Model for RowBlocks<'a> {
     ghost use Rattle.std.specs.Prelude.{◌≡◌, ◌+◌, ◌≤◌, ◌++◌, drop, length};
     ghost use Rattle.std.specs.List.{AllByRecursion};
     ghost use Rattle.dataset.specs.Opened.{IsDataset};
-    ghost use Rattle.query_engine.specs.Selected.{AreForParts, BlocksLeft, FitsItem, IsWalkOf, runs_left, runs_over, words_left, words_over};
+    ghost use Rattle.query_engine.specs.Selected.{AreForParts, BlocksLeft, FitsItem, IsWalkOf, first_runs, runs_left, runs_over, words_left, words_over};
 
     ghost Value = { BlocksLeft };
 
@@ -55,7 +57,7 @@ impl<'a> Model for RowBlocks<'a> {
       dataset = s.dataset.now;
       items = s.items.now;
       opened = s.opened.now;
-      runs = runs_left s.walk ++ runs_over s.next (drop s.next s.chosen.now);
+      runs = first_runs s.most (runs_left s.walk ++ runs_over s.next (drop s.next s.chosen.now));
       words = words_left s.walk + words_over (drop s.next s.chosen.now) (drop s.next s.opened.now);
     } };
 
@@ -68,19 +70,20 @@ impl<'a> Model for RowBlocks<'a> {
 }
 
 impl<'a> RowBlocks<'a> {
-    /// Before the first of the rows that are chosen in each part.
+    /// Before the first of the rows that are chosen in each part, of which at most so many are wanted.
     pub fn over(
         alloc: Global,
         dataset: &'a Dataset,
         items: &'a [PickItem],
         chosen: &'a [Wah],
         opened: &'a [SelectedPart],
+        most: u64,
     ) -> Result<RowBlocks<'a>, AllocError>
         requires valid { IsDataset dataset.now }
         requires fits { AllByRecursion (FitsItem dataset.now.schema) items.now }
         requires parts { AreForParts dataset.now items.now chosen.now opened.now }
         ensures over { IfOk result (λ blocks. (blocks.dataset ≡ dataset.now) × (blocks.items ≡ items.now) × (blocks.opened ≡ opened.now)) }
-        ensures runs { IfOk result (λ blocks. blocks.runs ≡ runs_over 0 chosen.now) }
+        ensures runs { IfOk result (λ blocks. blocks.runs ≡ first_runs most (runs_over 0 chosen.now)) }
         ensures words { IfOk result (λ blocks. blocks.words ≡ words_over chosen.now opened.now) }
     {
         Ok(RowBlocks {
@@ -91,11 +94,12 @@ impl<'a> RowBlocks<'a> {
             opened,
             next: 0,
             walk: None,
+            most,
             block: vec![in alloc; 0; MAX_ROWS_READ]?,
         })
     }
 
-    /// The selected cells of the next chosen rows: of 4,096 of them, or of all that are left; of none exactly at the end. Of each
+    /// The selected cells of the next chosen rows: of 4,096 of them, or of all that are left to read; of none exactly at the end. Of each
     /// row there is one cell for each item: that of the item's column, and null for `count(*)`. Of each run of neighbouring rows
     /// each column is read once, and of no other row.
     pub fn advance<S: Store, L: Ledger>(
@@ -119,15 +123,17 @@ impl<'a> RowBlocks<'a> {
             → rows.items ≡ selected_over self.old.items parts (first_runs 4096 self.old.runs)) }
         ensures whole { IfErr result (λ fault. (parts : List Partition) → AreParts (S.files store.old) self.old.dataset parts → NoDamage fault) }
     {
+        let until = self.most.min(MAX_ROWS_READ as u64) as usize;
         let mut rows = Vec::new(self.alloc);
         for _ in self.next..self.opened.len() + 1 {
             if let Some(walk) = &mut self.walk {
-                walk.fill(store, &mut self.block, &mut rows, steps)?;
+                walk.fill(store, &mut self.block, until, &mut rows, steps)?;
             }
-            if rows.len() == MAX_ROWS_READ || !self.enter_next()? {
+            if rows.len() == until || !self.enter_next()? {
                 break;
             }
         }
+        self.most -= rows.len() as u64;
         Ok(rows)
     }
 

@@ -64,6 +64,7 @@ fn blocks_of<R: Abort + AllocGlobal, L: Ledger>(
     dataset: &Dataset,
     plan: &Plan,
     items: &[PickItem],
+    most: u64,
 ) -> Result<Blocks, AskFault>
     requires ledger { blank.name ≡ L.name }
     requires parts { blank.parts ≡ L.parts }
@@ -75,7 +76,7 @@ fn blocks_of<R: Abort + AllocGlobal, L: Ledger>(
     let chosen = choose(rt.alloc(), store, dataset, plan, &mut steps)?;
     let opened = open_selected(rt.alloc(), store, dataset, items)?;
     let chosen = chosen.parts.as_slice();
-    let mut walk = RowBlocks::over(rt.alloc(), dataset, items, chosen, opened.as_slice())?;
+    let mut walk = RowBlocks::over(rt.alloc(), dataset, items, chosen, opened.as_slice(), most)?;
     let mut blocks = (Vec::new(rt.alloc()), Vec::new(rt.alloc()));
     for _ in 0..9 {
         let rows = walk.advance(store, &mut steps)?;
@@ -92,9 +93,21 @@ fn selected<R: Abort + AllocGlobal + Count>(
     text: &str,
     items: &[PickItem],
 ) -> Result<Blocks, AskFault> {
+    first_selected(rt, store, dir, text, items, u64::MAX)
+}
+
+/// The same of so many rows at most.
+fn first_selected<R: Abort + AllocGlobal + Count>(
+    rt: &R,
+    store: &mut MemStore,
+    dir: &str,
+    text: &str,
+    items: &[PickItem],
+    most: u64,
+) -> Result<Blocks, AskFault> {
     let dataset = dataset_at(rt, store, dir);
     let plan = planned(rt, &dataset, text);
-    blocks_of::<R, Brand>(rt, rt.blank(), store, &dataset, &plan, items)
+    blocks_of::<R, Brand>(rt, rt.blank(), store, &dataset, &plan, items, most)
 }
 
 /// The rows that a clause chooses, in order: of each the cells of the items' columns.
@@ -208,6 +221,19 @@ fn blocks_are_full(rt: HostRuntime) -> Result<(), Fail> {
         &[(0, 4096), (4096, 904), (0, 4096), (4096, 904)],
     );
     are_reads(&rt, &store, "B/p0001/b", &[(0, 3000), (0, 3000)]);
+    Ok(())
+}
+
+/// Where fewer rows are wanted no more are read.
+#[test]
+fn reading_ends_early(rt: HostRuntime) -> Result<(), Fail> {
+    let mut store = store(&rt, NUMBERS, "", &[], &[]);
+    match first_selected(&rt, &mut store, "D", "3 < a < 9", &[PickItem::Plain(0)], 4) {
+        Ok((text, _)) => assert!(rt; text.as_slice() == b"4 \n5 \n6 \n7 \n".as_slice()),
+        Err(_) => rt.panic("no answer"),
+    }
+    are_reads(&rt, &store, "D/p0000/a", &[(28, 12), (12, 16)]);
+    are_reads(&rt, &store, "D/p0002/a", &[(0, 4), (8, 4)]);
     Ok(())
 }
 

@@ -1,6 +1,6 @@
 //! The columns that a query selects, opened in each part.
 
-ghost use Rattle.std.specs.Prelude.{◌≡◌, ◌<◌, ℕ, List, None, Some, IfErr, IfOk, IfSome, IsErrOf, IsOk, length, slice_get, slice_index, take};
+ghost use Rattle.std.specs.Prelude.{◌≡◌, ◌++◌, ◌∷◌, [], ℕ, List, None, Some, IfErr, IfOk, IfSome, IsErrOf, slice_get};
 ghost use Rattle.std.specs.List.{AllByRecursion};
 ghost use Rattle.fb_outside.specs.Causes.{HasCause};
 ghost use Rattle.fb_outside.specs.Files.{SameFiles};
@@ -8,13 +8,14 @@ ghost use Rattle.fb_outside.specs.Reads.{AddsOnly};
 ghost use Rattle.dataset.specs.Opened.{IsDataset};
 ghost use Rattle.stages.specs.Faults.{IsRefused};
 ghost use Rattle.world.specs.World.{Partition};
-ghost use Rattle.part_meaning.specs.Columns.{column_at, present_rows};
+ghost use Rattle.part_meaning.specs.Columns.{PartColumn};
 ghost use Rattle.part_meaning.specs.Meaning.{IsPartAt};
+ghost use Rattle.two_stage.specs.ColumnFiles.{HasColumn};
 ghost use Rattle.two_stage.specs.Faults.{IsOfStore, IsOutside, StopsAt};
 ghost use Rattle.two_stage.specs.Placed.{placed_at};
 ghost use Rattle.query_engine.specs.Damage.{IfDamaged, NoDamage};
 ghost use Rattle.query_engine.specs.Parts.{AreParts};
-ghost use Rattle.query_engine.specs.Selected.{AreOpenIn, FitsItem, HasCells, IsOpenedOf, IsOpening, IsSelectedDamaged, column_of, mask_of};
+ghost use Rattle.query_engine.specs.Selected.{AreOpenIn, FitsItem, IsColumnOf, IsItemColumn, IsOpenedOf, IsOpening, IsOpeningOf, IsPartDamaged, IsSelectedDamaged, column_of, mask_of};
 
 use crate::damage::ask_fault;
 use crate::fault::AskFault;
@@ -156,7 +157,18 @@ fn open_item<S: Store>(
     part: &PartMeta,
     before: &[PickItem],
     item: PickItem,
-) -> Result<ItemColumn, AskFault> {
+) -> Result<ItemColumn, AskFault>
+    requires valid { IsDataset dataset.now }
+    requires listed { (place : ℕ) × (slice_get dataset.now.parts place ≡ Some part.now) }
+    requires fits { FitsItem dataset.now.schema item }
+    ensures cause { HasCause (S.faults store.old) (S.faults store.new) (IsErrOf result AskFault.Store) }
+    ensures files { SameFiles (S.files store.old) (S.files store.new) }
+    ensures stop { IfErr result (λ fault. IfDamaged fault (IsPartDamaged (S.files store.old) dataset.now part.now (before.now ++ item ∷ []))) }
+    ensures looks { AddsOnly (λ look. IfSome (column_of item) (λ col. IsOpeningOf (placed_at dataset.now.dir part.now col) look)) (S.reads store.old) (S.reads store.new) }
+    ensures none { column_of item ≡ None → S.reads store.new ≡ S.reads store.old }
+    ensures opened { IfOk result (IsItemColumn (S.files store.old) dataset.now.dir part.now before.now (column_of item)) }
+    ensures whole { IfErr result (λ fault. (p : Partition) → IsPartAt (S.files store.old) dataset.now.dir part.now p → NoDamage fault) }
+{
     let Some(col) = column_of(item) else {
         return Ok(ItemColumn::Nothing);
     };
@@ -185,6 +197,11 @@ fn open_column<S: Store>(
     ensures cause { HasCause (S.faults store.old) (S.faults store.new) (IsRefused result IsOfStore) }
     ensures files { SameFiles (S.files store.old) (S.files store.new) }
     ensures stop { IfErr result (StopsAt (S.files store.old) placed.now) }
+    ensures looks { AddsOnly (IsOpeningOf placed.now) (S.reads store.old) (S.reads store.new) }
+    ensures opened { IfOk result (IsColumnOf (S.files store.old) placed.now) }
+
+    // Where the files are those of a column.
+    ensures whole { IfErr result (λ fault. (column : PartColumn) → HasColumn (S.files store.old) placed.now column → IsOutside fault) }
 {
     match placed.column.ty {
         ColType::Text => Ok(SelectedColumn::Texts(placed.texts(alloc, store)?)),

@@ -16,6 +16,7 @@ mod listed;
 mod part_rows;
 mod present;
 mod row_blocks;
+mod select_laws;
 mod selected;
 
 pub use bounding::bounds;
@@ -25,6 +26,7 @@ pub use laws::{
     estimates_enclose_hits, the_damage_of_columns, the_hits_of_clauses, the_parts_of_a_world,
 };
 pub use row_blocks::RowBlocks;
+pub use select_laws::the_rows_of_blocks;
 pub use selected::{SelectedPart, open_selected};
 
 #[cfg(test)]

@@ -14,3 +14,5 @@ pub mod IndexedLemmas
 pub mod SettleLemmas
 pub mod HeadLemmas
 pub mod PartLemmas
+pub mod ColumnLookLemmas
+pub mod ConditionLookLemmas

@@ -23,13 +23,12 @@ ghost use Rattle.commands.specs.Runs.{LoadRuns};
 ghost use Rattle.ardea.specs.Looks.{IsLoadLook};
 ghost use Rattle.ardea.specs.Order.{load_takes_input};
 
-use crate::printing::print_loaded;
 use crate::questions::run_task;
 use ardea::load;
 use command_words::{Job, Load};
 use fb_outside::{Sink, Source, Store};
 pub use laws::{the_commands_of_requests, the_lines_of_commands};
-pub use printing::refuse;
+pub use printing::{print_loaded, refuse};
 use statuses::{Status, Stop};
 use std::alloc::Global;
 use std::sync::ledger::Ledger;

@@ -28,7 +28,7 @@ pub fn refuse<K: Sink>(alloc: Global, out: &mut K, status: Status) -> Status
 }
 
 /// Prints how many records were loaded.
-pub(crate) fn print_loaded<K: Sink>(alloc: Global, out: &mut K, rows: u64) -> Status
+pub fn print_loaded<K: Sink>(alloc: Global, out: &mut K, rows: u64) -> Status
     ensures cause { HasCause (K.faults out.old) (K.faults out.new) (result ≡ Status.SinkFault) }
     ensures prints { Prints Status.Done (loaded_line rows) (K.written out.old) (K.written out.new) result }
 {

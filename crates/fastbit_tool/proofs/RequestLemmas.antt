@@ -8,7 +8,6 @@ use Rattle.fb_outside.proofs.ReadLemmas.{AddsOnly-same}
 use Rattle.command_words.specs.declared.Job.{Job}
 use Rattle.statuses.specs.declared.Status.TheVariants.{OutOfMemory}
 use Rattle.commands.specs.Command.{Command, command_of, command_outcome}
-
 use Rattle.commands.specs.Looks.{IsLookOf}
 use Rattle.commands.proofs.PrintLemmas.{Replies-quiet, leaves_none, some_input, some_told}
 use Rattle.commands.proofs.QuestionLemmas.{no_steps, nothing_allowed}

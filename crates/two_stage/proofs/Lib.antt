@@ -17,3 +17,4 @@ pub mod ColumnLookLemmas
 pub mod PartLemmas
 pub mod ExistsLemmas
 pub mod WordsKnownLemmas
+pub mod KeptLemmas

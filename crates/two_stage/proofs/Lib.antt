@@ -18,3 +18,4 @@ pub mod PartLemmas
 pub mod ExistsLemmas
 pub mod WordsKnownLemmas
 pub mod KeptLemmas
+pub mod KeptEndLemmas

@@ -1,8 +1,9 @@
-use Rattle.std.proofs.Common.{ap, sym, ◌∙◌, length}
+use Rattle.std.proofs.Common.{ap, ◌∙◌, length, arith}
+use Rattle.std.proofs.lemmas.Int.{ints}
 use Rattle.std.proofs.lemmas.Result.{err_from_is_err_and}
 use Rattle.where_plan.specs.declared.plan.PlanAtom.TheVariants as atom
-use Rattle.two_stage.proofs.AnswerLemmas.{word_ends}
 use Rattle.two_stage.proofs.ColumnLookLemmas.{both_looks, mask_looks, words_looks}
+use Rattle.two_stage.proofs.KeptEndLemmas.{codes_between}
 use Rattle.two_stage.proofs.KeptLemmas.{codes_kept}
 use Rattle.two_stage.proofs.SettleLemmas.{mask_reads, mask_then, still_column, words_reads, words_then}
 use Rattle.two_stage.proofs.WordsKnownLemmas.{words_fetched, words_rows, words_steps}
@@ -104,7 +105,7 @@ returns-in_err-answers-clause-steps g c = λ column h.
 
 pub returns-clause-kept : goal.returns-clause-kept
 returns-clause-kept g c =
-    codes_kept _ _ c.args.placed.now c.args.condition.now c.in_ok-numbers.numbers c.in_ok-column.column c.in_ok-words.words c.in_ok-spans.spans c.requires.category
+    codes_kept _ _ c.args.placed.now c.args.condition.now c.in_ok-numbers.field-0 c.in_ok-column.column c.in_ok-words.words c.in_ok-spans.spans c.requires.category
     c.in_ok-numbers.ensures.opened c.in_ok-numbers.ensures.exact (c.in_ok-column.ensures.name, c.in_ok-column.ensures.typed, c.in_ok-column.ensures.rows)
     c.in_ok-numbers.ensures.files c.in_ok-words.ensures.exact c.in_ok-spans.ensures
 
@@ -115,7 +116,8 @@ returns-clause-answers g c = λ column h.
     words_rows _ c.args.placed.now column h c.requires.category c.args.condition.now c.in_ok-words.words (c.in_ok-words.ensures.found column its)
     c.in_ok-spans.spans c.in_ok-spans.ensures c.args.placed.now.col _
     (c.in_ok-answers.ensures.answers column last (c.in_ok-column.ensures.mask ∙ c.in_ok-numbers.ensures.found column h)
-    (word_ends _ c.args.placed.now column c.in_ok-words.words h c.requires.category (c.in_ok-words.ensures.found column its)))
+    (codes_between _ c.args.placed.now column c.in_ok-words.words c.from.result h c.requires.category (c.in_ok-words.ensures.found column its)
+    (omega (arith, ints, c.from.ensures, c.len.ensures.len)) (omega (arith, c.len.type_inv, c.len.ensures.len))))
 
 pub returns-clause-reads : goal.returns-clause-reads
 returns-clause-reads g c = λ column h.

@@ -1,44 +1,35 @@
 -- The answers of the first stage, row by row.
-use Rattle.std.proofs.Common.{◌≡◌, ℕ, zero, suc, ◌+◌, ◌*◌, ◌<◌, ◌≤◌, ℤ, pos, ◌≤ℤ◌, Bool, true, false, cond, not, List, [], ◌∷◌, All, get_or, length, map, Option, Some, None, IsSome, refl, sym, ap, subst, ◌∙◌, arith}
+use Rattle.std.proofs.Common.{◌≡◌, ℕ, zero, suc, ◌<◌, ◌≤◌, ℤ, pos, ◌≤ℤ◌, Bool, true, false, cond, List, [], ◌∷◌, get_or, length, map, Option, Some, None, refl, sym, ap, subst, ◌∙◌, arith}
 use Rattle.std.specs.Prelude.{if◌then◌else◌}
-use Rattle.std.specs.List.{find, flat_map, list_any, range_with_len}
+use Rattle.std.specs.List.{list_any, range_with_len}
 use Rattle.std.proofs.lemmas.Int.{ints}
 use Rattle.std.proofs.lemmas.List.{ext_get_or, length-map}
-use Rattle.std.proofs.lemmas.List.Elements.{All-head, All-tail}
 use Rattle.std.proofs.lemmas.List.FromFn.{get_or-map-range_with_len, length-map-range_with_len}
 use Rattle.std.proofs.Math.ListN.{get_or-map}
 use Rattle.fb_outside.specs.Files.{Files}
 use Rattle.fb_types.specs.declared.cells.Cell.{Cell}
 use Rattle.fb_types.specs.declared.cells.Cell.TheVariants.{Null, Whole, Word}
-use Rattle.fb_types.specs.declared.types.ColType.{ColType}
 use Rattle.fb_types.specs.declared.types.ColType.TheVariants.{Category, Text}
 use Rattle.fb_types.specs.Types.{ends_of, width_of}
-use Rattle.index_spec.specs.declared.spec.Spec.{Spec}
 use Rattle.binning.specs.Against.{against}
 use Rattle.binning.specs.Spans.{int_le}
 use Rattle.binning.specs.declared.against_bins.Three.{Three}
-use Rattle.binning.specs.declared.against_bins.Three.TheVariants.{Yes, No, Unknown}
+use Rattle.binning.specs.declared.against_bins.Three.TheVariants.{No}
 use Rattle.binning.specs.declared.gathering.Bin.{Bin}
 use Rattle.binning.specs.declared.span_lists.Span.{Span}
 use Rattle.three_valued.specs.Rows.{each_row}
 use Rattle.three_valued.specs.Tables.{decided, undecided}
 use Rattle.where_grammar.specs.Holds.{is_there}
 use Rattle.where_grammar.specs.declared.clause.Atom.{Atom}
-use Rattle.where_plan.specs.SpansOf.{AreSpansOf, code_meets, code_range, span}
+use Rattle.where_plan.specs.SpansOf.{code_range, span}
 use Rattle.where_plan.specs.declared.plan.PlanAtom.TheVariants as atom
 use Rattle.world.specs.Cells.{dictionary_of, is_present}
-use Rattle.part_meta.specs.FileNames.{index_name}
-use Rattle.index_file.specs.Places.{bitmap_look}
-use Rattle.index_spec.specs.Members.{needed}
-use Rattle.bin_answers.specs.BinRuns.{runs_of}
 use Rattle.binning.proofs.TestLemmas.{int_le-true}
 use Rattle.bin_answers.specs.Bins.{bin_at, said_by}
 use Rattle.part_meaning.specs.Columns.{PartColumn, bins_in, bins_under, cell_of_row, ends_in, ends_or, one_bin, present_rows}
-use Rattle.part_meaning.specs.Bitmaps.{bins_say, bitmap_looks, index_places, looks_under, needed_of, needed_under, work_of}
-use Rattle.part_meaning.specs.Known.{bin_says, known, of_codes}
+use Rattle.part_meaning.specs.Known.{bin_says, known}
 use Rattle.part_meaning.proofs.BinLemmas.{one_none}
 use Rattle.part_meaning.proofs.ColumnLemmas.{IsColumn, number_by, row_has}
-use Rattle.part_meaning.proofs.RangeLemmas.{against_words}
 use Rattle.part_meaning.proofs.KnownLemmas.{text_unknown}
 use Rattle.two_stage.specs.ColumnFiles.{HasColumn}
 use Rattle.two_stage.specs.Placed.{Placed}

@@ -1,5 +1,5 @@
 -- `exists` needs no bitmap, since the mask answers it.
-use Rattle.std.proofs.Common.{◌≡◌, ℕ, List, [], map, Option, Some, None, refl, ap, ◌∙◌}
+use Rattle.std.proofs.Common.{◌≡◌, ℕ, List, [], map, Option, Some, None, refl, ap}
 use Rattle.index_spec.specs.declared.spec.Spec.{Spec}
 use Rattle.index_file.specs.Places.{bitmap_look}
 use Rattle.part_meta.specs.FileNames.{index_name}

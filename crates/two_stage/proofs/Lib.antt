@@ -13,4 +13,5 @@ pub mod AnswerLemmas
 pub mod IndexedLemmas
 pub mod SettleLemmas
 pub mod HeadLemmas
+pub mod ColumnLookLemmas
 pub mod PartLemmas

@@ -10,5 +10,5 @@ all_no (true ∷ mask) = ap (λ l. No ∷ l) (all_no mask)
 all_no (false ∷ mask) = ap (λ l. No ∷ l) (all_no mask)
 
 pub returns-in-No : goal.returns-in-No
-returns-in-No g c =
-    rw c.in-No.is (IfOk-weaker c.uniform.result _ _ (λ a h. h ∙ ap (λ n. replicate n No) c.len.ensures.length ∙ all_no c.args.mask.now) c.uniform.ensures)
+returns-in-No g =
+    rw g.in-No.is (IfOk-weaker g.uniform.result _ _ (λ a h. h ∙ ap (λ n. replicate n No) g.len.ensures.length ∙ all_no g.args.mask) g.uniform.ensures)

@@ -1,6 +1,6 @@
 -- The reads of the first stage: the files of a column that have no values, before the bitmaps.
 use Rattle.std.proofs.Common.{◌≡◌, ◌⊎◌, inl, inr, ℕ, ◌+◌, ◌<◌, ◌≤◌, Bool, true, false, IsTrue, nat_lt, List, [], ◌∷◌, ◌++◌, All, length, map, Option, Some, None, IsSome, Ok, Err, IfSome, refl, sym, ap, subst, ◌∙◌, arith}
-use Rattle.std.specs.Prelude.{IfOk, IsOk, MatchOption, Result, slice_index}
+use Rattle.std.specs.Prelude.{IfOk, IsOk, Result, slice_index}
 use Rattle.std.specs.List.{AllByRecursion, list_any}
 use Rattle.std.specs.Str.{bytes_eq}
 use Rattle.fb_outside.specs.Files.{Files, file_at}
@@ -24,7 +24,7 @@ use Rattle.part_meaning.specs.Bitmaps.{bins_say, bitmap_looks, index_places, loo
 use Rattle.part_meaning.specs.Columns.{PartColumn}
 use Rattle.part_meaning.specs.Files.{is_bitmap_of, is_free_of}
 use Rattle.part_meaning.proofs.FetchLemmas.{column_fetches}
-use Rattle.two_stage.specs.ColumnFiles.{HasColumn, IsHeadOf, head_under}
+use Rattle.two_stage.specs.ColumnFiles.{HasColumn, head_under}
 use Rattle.two_stage.specs.Placed.{Placed, index_file, mask_file, starts_file, words_file}
 use Rattle.two_stage.proofs.FreeLemmas.{IsFree, free_reads, free_then, fetch_reads, mask_free, no_reads, starts_free, words_free, index_free, head_no_bitmap}
 use Rattle.two_stage.proofs.HeadLemmas.{head_ends}
@@ -163,11 +163,6 @@ module _ (files : Option Files) (p : Placed) (column : PartColumn) (has : HasCol
 
 pub no_looks : (p : Placed) (column : PartColumn) (condition : PlanAtom) → column.spec ≡ None → bitmap_looks p.dir p.number column condition ≡ []
 no_looks p column condition e = unindexed_looks p.dir p.number column condition e
-
--- where the column opens with no index it has none
-pub unindexed : (p : Placed) (column : PartColumn) (o : Option IndexHead) → o ≡ None → MatchOption o (column.spec ≡ None) (IsHeadOf p column) → column.spec ≡ None
-unindexed p column None e h = h
-unindexed p column (Some head) e h = absurd cc
 
 -- the files stayed
 pub still_column : (files mid : Option Files) (p : Placed) (column : PartColumn) → mid ≡ files → HasColumn files p column → HasColumn mid p column

@@ -15,3 +15,4 @@ pub mod SettleLemmas
 pub mod HeadLemmas
 pub mod ColumnLookLemmas
 pub mod PartLemmas
+pub mod ExistsLemmas

@@ -1,6 +1,5 @@
-use Rattle.std.proofs.Common.{◌≡◌, ℕ, Bool, true, false, cond, List, [], ◌∷◌, length, map, replicate, refl, ap, ◌∙◌}
+use Rattle.std.proofs.Common.{◌≡◌, Bool, true, false, cond, List, [], ◌∷◌, length, map, replicate, refl, ap, ◌∙◌}
 use Rattle.std.proofs.lemmas.Result.{IfOk-weaker}
-use Rattle.binning.specs.declared.against_bins.Three.{Three}
 use Rattle.binning.specs.declared.against_bins.Three.TheVariants.{No}
 use Rattle.two_stage.proofs.settling.answers_of.Goals as goal
 

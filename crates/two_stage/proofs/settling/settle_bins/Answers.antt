@@ -1,4 +1,4 @@
-use Rattle.std.proofs.Common.{◌≡◌, ap, sym, subst, ◌∙◌}
+use Rattle.std.proofs.Common.{ap, sym, subst, ◌∙◌}
 use Rattle.part_meaning.specs.Columns.{bins_in}
 use Rattle.two_stage.specs.Faults.{IsOutside, StopsAt, bins_fault}
 use Rattle.two_stage.specs.Placed.{Placed}

@@ -1,11 +1,11 @@
-use Rattle.std.proofs.Common.{◌≡◌, ◌<◌, ◌+◌, ℕ, Bool, List, [], ◌∷◌, All, length, map, take, drop, get_or, refl, ap, sym, subst, ◌∙◌, arith}
+use Rattle.std.proofs.Common.{◌≡◌, ◌<◌, ◌+◌, ℕ, Bool, List, [], ◌∷◌, length, map, take, drop, get_or, refl, ap, sym, subst, ◌∙◌, arith}
 use Rattle.std.proofs.lemmas.List.{take_all}
 use Rattle.std.proofs.lemmas.Result.{err_from_is_err_and}
 use Rattle.fb_outside.proofs.ReadLemmas.{AddsOnly-same, AddsOnly-trans}
 use Rattle.binning.specs.Encodings.{vectors}
 use Rattle.binning.specs.Members.{bitmap}
 use Rattle.bin_answers.specs.Fetched.{AreFaultless}
-use Rattle.bin_answers.proofs.FetchLemmas.{all_more, cause_from, cut, fetches_less, fetches_more, fetches_none, fetches_yet, grown, longer, sound_more, sound_none, still_bins, stop_memory, stop_more, taken_more}
+use Rattle.bin_answers.proofs.FetchLemmas.{all_more, cause_from, cut, fetches_less, fetches_more, fetches_none, grown, longer, sound_more, sound_none, still_bins, stop_memory, stop_more, taken_more}
 use Rattle.bin_answers.proofs.open_index.OpenIndex.fetch_all.Goals as goal
 
 pub loop-k-init : goal.loop-k-init

@@ -13,4 +13,10 @@ pub mod AnswerLemmas
 pub mod IndexedLemmas
 pub mod SettleLemmas
 pub mod HeadLemmas
+pub mod ColumnLookLemmas
+pub mod ConditionLookLemmas
 pub mod PartLemmas
+pub mod ExistsLemmas
+pub mod WordsKnownLemmas
+pub mod KeptLemmas
+pub mod KeptEndLemmas

@@ -4,7 +4,7 @@ use Rattle.std.specs.Prelude.{IfErr, IsOk}
 use Rattle.std.specs.List.{AllByRecursion, filter}
 use Rattle.std.proofs.lemmas.Result.{IfOk-weaker}
 use Rattle.fb_outside.specs.Files.{Files}
-use Rattle.fb_outside.specs.Reads.{AddsReads, Look}
+use Rattle.fb_outside.specs.Reads.{AddsOnly, AddsReads, Look}
 use Rattle.fb_outside.proofs.ReadLemmas.{AddsReads-weaken}
 use Rattle.binning.specs.declared.against_bins.Three.{Three}
 use Rattle.wah_logic.specs.Logic.{groups_and_rest}
@@ -26,7 +26,7 @@ use Rattle.part_meaning.specs.Parts.{is_bitmap_in}
 use Rattle.two_stage.specs.ColumnFiles.{HasColumn}
 use Rattle.two_stage.specs.Faults.{IsOutside, Stops, StopsAt}
 use Rattle.two_stage.specs.Kept.{IsKept, IsKeptOf}
-use Rattle.two_stage.specs.Placed.{Placed, placed_at}
+use Rattle.two_stage.specs.Placed.{IsColumnLook, Placed, placed_at, placed_of}
 use Rattle.two_stage.specs.declared.fault.EvalFault.{EvalFault}
 use Rattle.two_stage.specs.declared.open_column.OpenColumn.{OpenColumn}
 use Rattle.two_stage.proofs.AnsweredLemmas.{within_schema}
@@ -149,7 +149,10 @@ module _ (files : Option Files) (dir : List ℕ) (meta : PartMeta) (valid : IsPa
       (subst (λ (q : Placed). (column : PartColumn) → HasColumn files q column → now ≤ before + 2 * groups_and_rest q.rows * work_of column condition) there
       (subst (λ (c : PlanAtom). (column : PartColumn) → HasColumn files p column → now ≤ before + 2 * groups_and_rest p.rows * work_of column c) same says))
 
-  -- its fault, its open column and the number of its answers
+  -- its reads, its fault, its open column and the number of its answers
+  pub meant_looks : (old new : Option (List Look)) → AddsOnly (IsColumnLook p) old new → AddsOnly (IsColumnLook (placed_of dir meta condition)) old new
+  meant_looks old new h = subst (λ (q : Placed). AddsOnly (IsColumnLook q) old new) there h
+
   pub meant_stop : {A : Type 0} (result : Result A EvalFault) → IfErr result (StopsAt files p) → IfErr result (Stops files dir meta condition)
   meant_stop result h = subst (λ (q : Placed). IfErr result (StopsAt files q)) there h
 

@@ -36,17 +36,6 @@ unindexed_looks : (dir : List ℕ) (number : ℕ) (column : PartColumn) (conditi
 unfolding bitmap_looks
 unindexed_looks dir number column condition e = ap (λ o. looks_under o (index_name dir number column.name) column condition) e
 
--- `exists` needs no bitmap
-pub exists_looks : (dir : List ℕ) (number : ℕ) (column : PartColumn) (col : ℕ) → bitmap_looks dir number column (atom.Exists col) ≡ []
-unfolding bitmap_looks needed_of bins_say
-exists_looks dir number column col = by column.spec refl
-  where
-    by : (o : Option Spec) → column.spec ≡ o → bitmap_looks dir number column (atom.Exists col) ≡ []
-    by None e = ap (λ o. looks_under o (index_name dir number column.name) column (atom.Exists col)) e
-    by (Some spec) e =
-        ap (λ o. looks_under o (index_name dir number column.name) column (atom.Exists col)) e
-        ∙ ap (λ o. map (bitmap_look (index_name dir number column.name) (index_places spec column)) (needed_under o column (atom.Exists col))) e
-
 -- a column of texts has no index
 no_index : (o : Option Spec) → ((spec : Spec) → o ≡ Some spec → ⊥) → o ≡ None
 no_index None f = refl

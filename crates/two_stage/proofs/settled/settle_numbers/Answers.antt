@@ -1,7 +1,10 @@
 use Rattle.std.proofs.Common.{ap, sym, ◌∙◌, length}
 use Rattle.std.proofs.lemmas.Result.{err_from_is_err_and}
+use Rattle.fb_types.specs.Types.{ends_of}
 use Rattle.where_plan.specs.declared.plan.PlanAtom.TheVariants as atom
-use Rattle.two_stage.proofs.AnswerLemmas.{number_ends}
+use Rattle.two_stage.specs.Placed.{Placed}
+use Rattle.two_stage.proofs.ColumnLookLemmas.{both_looks, mask_looks}
+use Rattle.two_stage.proofs.KeptEndLemmas.{numbers_between}
 use Rattle.two_stage.proofs.SettleLemmas.{mask_reads, mask_then, still_column}
 use Rattle.two_stage.proofs.settled.settle_numbers.Goals as goal
 
@@ -35,8 +38,22 @@ returns-in_err-answers-clause-reads g c =
 
 pub returns-clause-answers : goal.returns-clause-answers
 returns-clause-answers g c = λ column h.
-    c.in_ok-answers.ensures.answers column (still_column _ _ c.args.placed.now column c.in_ok-numbers.ensures.files h) (c.in_ok-column.ensures.mask ∙ c.in_ok-numbers.ensures.found column h) (number_ends _ c.args.placed.now column c.in-Some.least c.in-Some.greatest h ?)
+    c.in_ok-answers.ensures.answers column (still_column _ _ c.args.placed.now column c.in_ok-numbers.ensures.files h) (c.in_ok-column.ensures.mask ∙ c.in_ok-numbers.ensures.found column h) (numbers_between _ c.args.placed.now column c.in-Some.least c.in-Some.greatest h (ap (λ (p : Placed). ends_of p.column.ty) (sym c.placed.view_is) ∙ sym c.ends.ensures ∙ c.in-Some.is))
 
 pub returns-clause-reads : goal.returns-clause-reads
 returns-clause-reads g c = λ column h.
     mask_then _ c.args.placed.now column h (atom.Whole c.args.placed.now.col c.args.spans.now) _ _ _ _ c.in_ok-numbers.ensures.reads (c.in_ok-answers.ensures.reads column (still_column _ _ c.args.placed.now column c.in_ok-numbers.ensures.files h) (c.in_ok-column.ensures.mask ∙ c.in_ok-numbers.ensures.found column h))
+
+pub returns-in_err-numbers-clause-looks : goal.returns-in_err-numbers-clause-looks
+returns-in_err-numbers-clause-looks g c = mask_looks _ c.args.placed.now _ _ c.in_err-numbers.ensures.reads
+
+pub returns-in_err-column-clause-looks : goal.returns-in_err-column-clause-looks
+returns-in_err-column-clause-looks g c = mask_looks _ c.args.placed.now _ _ c.in_ok-numbers.ensures.reads
+
+pub returns-in_err-answers-clause-looks : goal.returns-in_err-answers-clause-looks
+returns-in_err-answers-clause-looks g c =
+    both_looks c.args.placed.now _ _ _ (mask_looks _ c.args.placed.now _ _ c.in_ok-numbers.ensures.reads) c.in_err-answers.ensures.looks
+
+pub returns-clause-looks : goal.returns-clause-looks
+returns-clause-looks g c =
+    both_looks c.args.placed.now _ _ _ (mask_looks _ c.args.placed.now _ _ c.in_ok-numbers.ensures.reads) c.in_ok-answers.ensures.looks

@@ -4,6 +4,7 @@ use Rattle.std.proofs.lemmas.Result.{err_from_is_err_and}
 use Rattle.three_valued.specs.Tables.{undecided}
 use Rattle.where_plan.specs.declared.plan.PlanAtom.TheVariants as atom
 use Rattle.two_stage.proofs.AnswerLemmas.{texts_rows}
+use Rattle.two_stage.proofs.ColumnLookLemmas.{starts_looks}
 use Rattle.two_stage.proofs.SettleLemmas.{texts_reads}
 use Rattle.two_stage.proofs.settled.settle_texts.Goals as goal
 
@@ -36,3 +37,15 @@ returns-clause-answers g c = λ condition column h.
 pub returns-clause-reads : goal.returns-clause-reads
 returns-clause-reads g c = λ condition column h.
     texts_reads _ c.args.placed.now column h (atom.Word c.args.placed.now.col condition) _ c.requires _ _ c.in_ok-texts.ensures.reads
+
+pub returns-in_err-texts-clause-looks : goal.returns-in_err-texts-clause-looks
+returns-in_err-texts-clause-looks g c = starts_looks _ c.args.placed.now _ _ c.in_err-texts.ensures.reads
+
+pub returns-in_err-text-clause-looks : goal.returns-in_err-text-clause-looks
+returns-in_err-text-clause-looks g c = starts_looks _ c.args.placed.now _ _ c.in_ok-texts.ensures.reads
+
+pub returns-in_err-answers-clause-looks : goal.returns-in_err-answers-clause-looks
+returns-in_err-answers-clause-looks g c = starts_looks _ c.args.placed.now _ _ c.in_ok-texts.ensures.reads
+
+pub returns-clause-looks : goal.returns-clause-looks
+returns-clause-looks g c = starts_looks _ c.args.placed.now _ _ c.in_ok-texts.ensures.reads

@@ -1,8 +1,9 @@
-use Rattle.std.proofs.Common.{◌≡◌, ap, sym, subst, ◌∙◌}
+use Rattle.std.proofs.Common.{ap, sym, subst, ◌∙◌}
 use Rattle.part_meaning.specs.Columns.{bins_in}
 use Rattle.two_stage.specs.Faults.{IsOutside, StopsAt, bins_fault}
 use Rattle.two_stage.specs.Placed.{Placed}
 use Rattle.two_stage.specs.declared.fault.EvalFault.{EvalFault}
+use Rattle.two_stage.proofs.ColumnLookLemmas.{index_looks}
 use Rattle.two_stage.proofs.IndexedLemmas.{bins_outside, bins_stop, has_bins, index_answers, index_reads, index_steps}
 use Rattle.two_stage.proofs.settling.settle_bins.Goals as goal
 
@@ -41,3 +42,9 @@ pub returns-in-Err-clause-steps : goal.returns-in-Err-clause-steps
 returns-in-Err-clause-steps g c = λ column h.
     index_steps _ c.args.placed.now column c.args.index.now.head c.args.spans.now h c.requires.name c.requires.rows c.requires.opened c.args.index.now.mask _ _
     c.args.index.now.long c.in-Err.ensures.steps
+
+pub returns-in-Ok-clause-looks : goal.returns-in-Ok-clause-looks
+returns-in-Ok-clause-looks g c = index_looks c.args.placed.now c.args.index.now.head.name _ _ c.requires.name c.in-Ok.ensures.looks
+
+pub returns-in-Err-clause-looks : goal.returns-in-Err-clause-looks
+returns-in-Err-clause-looks g c = index_looks c.args.placed.now c.args.index.now.head.name _ _ c.requires.name c.in-Err.ensures.looks

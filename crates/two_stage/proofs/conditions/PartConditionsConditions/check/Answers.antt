@@ -3,6 +3,7 @@ use Rattle.std.proofs.Common.{◌≡◌, ℕ, ◌≤◌, ◌+◌, arith}
 use Rattle.wah_words.specs.Spelling.{words_of}
 use Rattle.two_stage.proofs.AnsweredLemmas.{IsAnswered, codes_answered, exists_answered, texts_answered, whole_answered}
 use Rattle.two_stage.proofs.CheckLemmas.{few_steps}
+use Rattle.two_stage.proofs.ConditionLookLemmas.{codes_looks, whole_looks, word_looks}
 use Rattle.two_stage.proofs.conditions.PartConditionsConditions.check.Given.{Over}
 use Rattle.two_stage.proofs.conditions.PartConditionsConditions.check.Goals as goal
 
@@ -17,6 +18,12 @@ whole_by g c =
     c.in-Whole-Numbers.col c.in-Whole-Numbers.spans c.in-Whole-Numbers.numbers c.in-Whole-Numbers.is-0 c.in-Whole-Numbers.is-1
     c.requires.fits c.requires.opened c.requires.unknown
     (record { found = c.check_numbers.ensures.found; whole = c.check_numbers.ensures.whole; reads = c.check_numbers.ensures.reads })
+
+pub returns-in-Whole-Numbers-clause-looks : goal.returns-in-Whole-Numbers-clause-looks
+returns-in-Whole-Numbers-clause-looks g c =
+    whole_looks (g.S.Store.files c.args.store.now) c.args.self.now.dir c.args.self.now.meta c.args.atom.now c.args.column.now c.args.candidates.now
+    (g.S.Store.reads c.args.store.now) (g.S.Store.reads c.check_numbers.new.store) c.in-Whole-Numbers.col c.in-Whole-Numbers.spans c.in-Whole-Numbers.numbers c.in-Whole-Numbers.is-0 c.in-Whole-Numbers.is-1
+    c.requires.opened c.check_numbers.ensures.reads
 
 pub returns-in-Whole-Numbers-clause-steps : goal.returns-in-Whole-Numbers-clause-steps
 returns-in-Whole-Numbers-clause-steps g c =
@@ -47,6 +54,12 @@ codes_by g c =
       reads = c.check_numbers-in-Word-Codes.ensures.reads;
     })
 
+pub returns-in-Word-Codes-clause-looks : goal.returns-in-Word-Codes-clause-looks
+returns-in-Word-Codes-clause-looks g c =
+    codes_looks (g.S.Store.files c.args.store.now) c.args.self.now.dir c.args.self.now.meta c.args.atom.now c.args.column.now c.args.candidates.now
+    (g.S.Store.reads c.args.store.now) (g.S.Store.reads c.check_numbers-in-Word-Codes.new.store) c.in-Word-Codes.col c.in-Word-Codes.atom-0 c.in-Word-Codes.spans c.in-Word-Codes.codes c.in-Word-Codes.is-0 c.in-Word-Codes.is-1
+    c.requires.opened c.check_numbers-in-Word-Codes.ensures.reads
+
 pub returns-in-Word-Codes-clause-steps : goal.returns-in-Word-Codes-clause-steps
 returns-in-Word-Codes-clause-steps g c =
     few_steps c.args.candidates.now c.args.self.now.meta.rows c.args.steps.now c.check_numbers-in-Word-Codes.new.steps c.requires.length
@@ -72,6 +85,12 @@ texts_by g c =
     c.args.column.now c.in-Word-Texts.col c.in-Word-Texts.atom c.in-Word-Texts.text c.in-Word-Texts.is-0 c.in-Word-Texts.is-1
     c.requires.fits c.requires.opened c.requires.unknown
     (record { found = c.check_texts.ensures.found; whole = c.check_texts.ensures.whole; reads = c.check_texts.ensures.reads })
+
+pub returns-in-Word-Texts-clause-looks : goal.returns-in-Word-Texts-clause-looks
+returns-in-Word-Texts-clause-looks g c =
+    word_looks (g.S.Store.files c.args.store.now) c.args.self.now.dir c.args.self.now.meta c.args.atom.now c.args.column.now c.args.candidates.now
+    (g.S.Store.reads c.args.store.now) (g.S.Store.reads c.check_texts.new.store) c.in-Word-Texts.col c.in-Word-Texts.atom c.in-Word-Texts.text c.in-Word-Texts.is-0 c.in-Word-Texts.is-1
+    c.requires.opened c.check_texts.ensures.reads
 
 pub returns-in-Word-Texts-clause-steps : goal.returns-in-Word-Texts-clause-steps
 returns-in-Word-Texts-clause-steps g c =

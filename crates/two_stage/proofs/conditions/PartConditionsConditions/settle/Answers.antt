@@ -6,7 +6,7 @@ use Rattle.binning.specs.declared.against_bins.Three.{Three}
 use Rattle.stages.specs.declared.conditions.Settled.{Settled}
 use Rattle.where_plan.specs.declared.plan.PlanAtom.TheVariants as atom
 use Rattle.two_stage.specs.declared.open_column.OpenColumn.{OpenColumn}
-use Rattle.two_stage.proofs.MeantLemmas.{IsMeant, meant, meant_kept, meant_length, meant_stop, meant_work}
+use Rattle.two_stage.proofs.MeantLemmas.{IsMeant, meant, meant_kept, meant_length, meant_looks, meant_stop, meant_work}
 use Rattle.two_stage.proofs.conditions.PartConditionsConditions.settle.Given.{Over}
 use Rattle.two_stage.proofs.conditions.PartConditionsConditions.settle.Goals as goal
 
@@ -26,6 +26,12 @@ whole_by g c =
     (λ col. atom.Whole col c.in-Whole.spans) c.in-Whole.col c.in-Whole.is refl c.requires.fits c.placed.result c.placed.ensures.place
     (g.S.Store.reads c.args.store.now) (g.S.Store.reads c.settle_numbers.new.store) answers_of c.settle_numbers.result
     (record { answers = c.settle_numbers.ensures.answers; whole = c.settle_numbers.ensures.whole; reads = c.settle_numbers.ensures.reads })
+
+pub returns-in-Whole-clause-looks : goal.returns-in-Whole-clause-looks
+returns-in-Whole-clause-looks g c =
+    meant_looks (g.S.Store.files c.args.store.now) c.args.self.now.dir c.args.self.now.meta c.placed.ensures.part c.args.atom.now
+    (λ col. atom.Whole col c.in-Whole.spans) c.in-Whole.col c.in-Whole.is refl c.requires.fits c.placed.result c.placed.ensures.place
+    (g.S.Store.reads c.args.store.now) (g.S.Store.reads c.settle_numbers.new.store) c.settle_numbers.ensures.looks
 
 pub returns-in-Whole-clause-answers : goal.returns-in-Whole-clause-answers
 returns-in-Whole-clause-answers g c = (whole_by g c).answers
@@ -56,6 +62,12 @@ texts_by g c =
       whole = c.settle_texts.ensures.whole;
       reads = c.settle_texts.ensures.reads c.in-Word.atom;
     })
+
+pub returns-in-Text-clause-looks : goal.returns-in-Text-clause-looks
+returns-in-Text-clause-looks g c =
+    meant_looks (g.S.Store.files c.args.store.now) c.args.self.now.dir c.args.self.now.meta c.placed-placed.ensures.part c.args.atom.now
+    (λ col. atom.Word col c.in-Word.atom) c.in-Word.col c.in-Word.is refl c.requires.fits c.placed-placed.result c.placed-placed.ensures.place
+    (g.S.Store.reads c.args.store.now) (g.S.Store.reads c.settle_texts.new.store) c.settle_texts.ensures.looks
 
 pub returns-in-Text-clause-opened : goal.returns-in-Text-clause-opened
 returns-in-Text-clause-opened g c =
@@ -91,6 +103,9 @@ returns-in_default g c = record {
   stop = meant_stop (g.S.Store.files c.args.store.now) c.args.self.now.dir c.args.self.now.meta c.placed-placed.ensures.part c.args.atom.now
       (λ col. atom.Word col c.in-Word.atom) c.in-Word.col c.in-Word.is refl c.requires.fits c.placed-placed.result c.placed-placed.ensures.place
       c.settle_words.result c.settle_words.ensures.stop;
+  looks = meant_looks (g.S.Store.files c.args.store.now) c.args.self.now.dir c.args.self.now.meta c.placed-placed.ensures.part c.args.atom.now
+      (λ col. atom.Word col c.in-Word.atom) c.in-Word.col c.in-Word.is refl c.requires.fits c.placed-placed.result c.placed-placed.ensures.place
+      (g.S.Store.reads c.args.store.now) (g.S.Store.reads c.settle_words.new.store) c.settle_words.ensures.looks;
   opened = meant_kept (g.S.Store.files c.args.store.now) c.args.self.now.dir c.args.self.now.meta c.placed-placed.ensures.part c.args.atom.now
       (λ col. atom.Word col c.in-Word.atom) c.in-Word.col c.in-Word.is refl c.requires.fits c.placed-placed.result c.placed-placed.ensures.place
       column_of c.settle_words.result c.settle_words.ensures.kept;
@@ -115,6 +130,12 @@ exists_by g c =
     atom.Exists c.in-Exists.col c.in-Exists.is refl c.requires.fits c.placed-in-Exists.result c.placed-in-Exists.ensures.place
     (g.S.Store.reads c.args.store.now) (g.S.Store.reads c.settle_exists.new.store) answers_of c.settle_exists.result
     (record { answers = c.settle_exists.ensures.answers; whole = c.settle_exists.ensures.whole; reads = c.settle_exists.ensures.reads })
+
+pub returns-in-Exists-clause-looks : goal.returns-in-Exists-clause-looks
+returns-in-Exists-clause-looks g c =
+    meant_looks (g.S.Store.files c.args.store.now) c.args.self.now.dir c.args.self.now.meta c.placed-in-Exists.ensures.part c.args.atom.now
+    atom.Exists c.in-Exists.col c.in-Exists.is refl c.requires.fits c.placed-in-Exists.result c.placed-in-Exists.ensures.place
+    (g.S.Store.reads c.args.store.now) (g.S.Store.reads c.settle_exists.new.store) c.settle_exists.ensures.looks
 
 pub returns-in-Exists-clause-answers : goal.returns-in-Exists-clause-answers
 returns-in-Exists-clause-answers g c = (exists_by g c).answers

@@ -1,23 +1,31 @@
 -- The parts of a dataset are apart: a read of one is of no other's bitmaps.
 use Rattle.std.proofs.Common.{◌≡◌, ℕ, zero, suc, ◌+◌, ◌*◌, ◌<◌, ◌≤◌, Bool, List, [], ◌∷◌, length, map, Option, Some, refl, sym, ap, subst, ◌∙◌, arith}
-use Rattle.std.specs.Prelude.{option_map, slice_get}
+use Rattle.std.specs.Prelude.{option_map, slice_get, slice_index_or}
 use Rattle.std.proofs.lemmas.Option.{slice_get-map}
 use Rattle.fb_outside.specs.Files.{Files}
-use Rattle.fb_outside.specs.Reads.{Look}
+use Rattle.fb_outside.specs.Reads.{AddsOnly, Look}
+use Rattle.fb_outside.proofs.ReadLemmas.{AddsOnly-weaken}
+use Rattle.fb_types.specs.declared.schemas.Column.{Column}
+use Rattle.part_meta.specs.FileNames.{file_name}
 use Rattle.part_meta.specs.declared.part.PartMeta.{PartMeta}
+use Rattle.where_plan.specs.Plans.{place_in}
 use Rattle.where_plan.specs.declared.plan.Plan.{Plan}
+use Rattle.three_valued.specs.Plans.{atoms_of}
 use Rattle.wah_logic.specs.Logic.{groups_and_rest}
 use Rattle.stages.specs.Answer.{bitmaps_in, work_in}
+use Rattle.stages.specs.Faults.{IsOneOf}
 use Rattle.stages.specs.Looks.{AddsLooks}
 use Rattle.stages.specs.Meaning.{Meaning}
 use Rattle.world.specs.World.{Partition}
 use Rattle.world.proofs.PlaceLemmas.{All-at, AllPairs-at, same_place}
 use Rattle.dataset.specs.Opened.{IsDataset, IsPartOf}
 use Rattle.dataset.specs.declared.content.Dataset.{Dataset}
+use Rattle.part_meaning.specs.Columns.{no_column}
 use Rattle.part_meaning.specs.Meaning.{IsPartAt, meaning_of}
 use Rattle.part_meaning.specs.Parts.{is_bitmap_in}
+use Rattle.two_stage.specs.Placed.{IsColumnLook, placed_of}
 use Rattle.query_engine.specs.Parts.{AreParts}
-use Rattle.query_engine.specs.Reads.{is_bitmap_over, means_in, steps_in}
+use Rattle.query_engine.specs.Reads.{IsPlanLook, is_bitmap_over, means_in, steps_in}
 use Rattle.query_engine.proofs.NameLemmas.{IsOfPart, bitmap_of_part, same_part}
 use Rattle.query_engine.proofs.ReadLemmas.{any_alone}
 
@@ -49,6 +57,31 @@ pub own_reads : (allowed : Meaning → Plan → Look → Bool) (dataset : Datase
 own_reads allowed dataset place meta part plan old new done valid listed h =
     subst (λ schema. AddsLooks old new (allowed (meaning_of dataset.dir schema part) plan) (is_bitmap_in dataset.dir schema part)
     (bitmaps_in (meaning_of dataset.dir schema part) plan) done) (listed_at dataset place meta valid listed).1 h
+
+plan_look : (dataset : Dataset) (place : ℕ) (meta : PartMeta) (plan : Plan) (look : Look) → IsDataset dataset → slice_get dataset.parts place ≡ Some meta
+    → IsOneOf (atoms_of plan) (λ condition. IsColumnLook (placed_of dataset.dir meta condition) look) → IsPlanLook dataset plan look
+plan_look dataset place meta plan look valid listed one = record {
+  place = place;
+  part = meta;
+  listed = listed;
+  kind = one.is.kind;
+  for_condition = record {
+    place = one.place;
+    atom = one.atom;
+    there = one.there;
+    is = subst (λ (schema : List Column). look.name ≡ file_name dataset.dir meta.number (Some (slice_index_or schema (place_in one.atom) no_column).name) one.is.kind)
+        (listed_at dataset place meta valid listed).1 one.is.of_it;
+  };
+}
+
+-- each read of a listed part is one of the dataset
+pub own_looks : (dataset : Dataset) (place : ℕ) (meta : PartMeta) (plan : Plan) (old new : Option (List Look)) → IsDataset dataset
+    → slice_get dataset.parts place ≡ Some meta
+    → AddsOnly (λ look. IsOneOf (atoms_of plan) (λ condition. IsColumnLook (placed_of dataset.dir meta condition) look)) old new
+    → AddsOnly (IsPlanLook dataset plan) old new
+own_looks dataset place meta plan old new valid listed h =
+    AddsOnly-weaken (λ look. IsOneOf (atoms_of plan) (λ condition. IsColumnLook (placed_of dataset.dir meta condition) look)) (IsPlanLook dataset plan) old new
+    (λ look one. plan_look dataset place meta plan look valid listed one) h
 
 pub own_steps : (files : Option Files) (dataset : Dataset) (place : ℕ) (meta : PartMeta) (part : Partition) (plan : Plan) (before now : ℕ)
     → IsDataset dataset → slice_get dataset.parts place ≡ Some meta → IsPartAt files dataset.dir meta part

@@ -1,12 +1,13 @@
 use Rattle.std.proofs.Common.{◌≡◌, IsOk, true, refl, sym, subst, ◌∙◌, arith}
 use Rattle.std.proofs.lemmas.Result.{err_from_is_err_and}
+use Rattle.fb_outside.proofs.ReadLemmas.{AddsOnly-same, AddsOnly-trans}
 use Rattle.stages.specs.Answer.{bitmaps_in}
 use Rattle.stages.proofs.ListLemmas.{err_not_ok}
 use Rattle.stages.proofs.LookLemmas.{adds_done}
 use Rattle.world.specs.World.{Partition}
 use Rattle.part_meaning.specs.Meaning.{IsPartAt}
 use Rattle.part_meaning.specs.Parts.{is_bitmap_in}
-use Rattle.query_engine.specs.Reads.{is_free_over, means_in}
+use Rattle.query_engine.specs.Reads.{IsPlanLook, is_free_over, means_in}
 use Rattle.query_engine.proofs.BoundingLemmas.{bounded_more, bounded_none, free_in, named}
 use Rattle.query_engine.proofs.PartLemmas.{part_at}
 use Rattle.query_engine.proofs.WalkLemmas.{refused_reads, refused_steps, whole_reads}
@@ -16,6 +17,7 @@ pub loop-place-init : goal.loop-place-init
 loop-place-init g c = record {
   unfailed = refl;
   kept = refl;
+  looked = AddsOnly-same (IsPlanLook c.args.dataset.now c.args.plan.now) (g.S.Store.reads c.args.store.now) (g.S.Store.reads c.args.store.now) refl;
   bounded = bounded_none (g.S.Store.files c.args.store.now) c.args.dataset.now c.args.plan.now c.requires.valid c.requires.fits (g.S.Store.reads c.args.store.now) c.args.steps.now;
 }
 
@@ -28,6 +30,11 @@ returns-in_err-found-clause-whole g c =
     let meta = c.listed_part-part.result.now in
     rw (exit.1, exit.2) (λ parts are. let p = part_at files dataset parts c.requires.valid are place meta c.listed_part-part.ensures in
     c.in_err-found.ensures.whole p.0 (subst (λ f. IsPartAt f dataset.dir meta p.0) (sym c.loop-place.invariant.kept) (are.each place meta p.0 c.listed_part-part.ensures p.1)))
+
+pub returns-in_err-found-clause-looks : goal.returns-in_err-found-clause-looks
+returns-in_err-found-clause-looks g c =
+    AddsOnly-trans (IsPlanLook c.args.dataset.now c.args.plan.now) (g.S.Store.reads c.args.store.now) (g.S.Store.reads c.loop-place.store)
+    (g.S.Store.reads c.bound_in.new.store) c.loop-place.invariant.looked c.bound_in.ensures.looks
 
 pub returns-in_err-found-clause-reads : goal.returns-in_err-found-clause-reads
 unfolding is_free_over
@@ -77,6 +84,7 @@ loop-place-preserved g c =
     record {
       unfailed = (rw c.in_ok-found.was at c.bound_in.ensures.cause).told (λ e. cc) ∙ before.unfailed;
       kept = c.bound_in.ensures.files ∙ before.kept;
+      looked = AddsOnly-trans (IsPlanLook dataset plan) old mid new before.looked c.bound_in.ensures.looks;
       bounded = bounded_more files dataset plan c.requires.valid c.requires.fits old mid new c.args.steps.now c.loop-place.steps c.bound_in.new.steps place
           c.loop-place.definite c.loop-place.possible meta found.definite found.possible c.listed_part-part.ensures before.bounded (record {
             few = said.few;

@@ -1,12 +1,13 @@
 use Rattle.std.proofs.Common.{◌≡◌, ◌+◌, IsOk, true, refl, sym, subst, ◌∙◌, arith}
 use Rattle.std.proofs.lemmas.Result.{err_from_is_err_and}
+use Rattle.fb_outside.proofs.ReadLemmas.{AddsOnly-same, AddsOnly-trans}
 use Rattle.stages.specs.Answer.{bitmaps_in}
 use Rattle.stages.proofs.ListLemmas.{err_not_ok}
 use Rattle.stages.proofs.LookLemmas.{adds_done}
 use Rattle.world.specs.World.{Partition}
 use Rattle.part_meaning.specs.Meaning.{IsPartAt}
 use Rattle.part_meaning.specs.Parts.{is_bitmap_in}
-use Rattle.query_engine.specs.Reads.{is_allowed_over, means_in}
+use Rattle.query_engine.specs.Reads.{IsPlanLook, is_allowed_over, means_in}
 use Rattle.query_engine.proofs.ChoosingLemmas.{ChosenTo, all_hits, allowed_of, chosen_more, chosen_none, named}
 use Rattle.query_engine.proofs.PartLemmas.{part_at}
 use Rattle.query_engine.proofs.WalkLemmas.{refused_reads, refused_steps, whole_reads}
@@ -16,6 +17,7 @@ pub loop-place-init : goal.loop-place-init
 loop-place-init g c = record {
   unfailed = refl;
   kept = refl;
+  looked = AddsOnly-same (IsPlanLook c.args.dataset.now c.args.plan.now) (g.S.Store.reads c.args.store.now) (g.S.Store.reads c.args.store.now) refl;
   chosen = chosen_none (g.S.Store.files c.args.store.now) c.args.dataset.now c.args.plan.now c.requires.valid c.requires.fits (g.S.Store.reads c.args.store.now) c.args.steps.now c.new-parts.result c.new-parts.ensures;
 }
 
@@ -28,6 +30,11 @@ returns-in_err-found-clause-whole g c =
     let meta = c.listed_part-part.result.now in
     rw (exit.1, exit.2) (λ parts are. let p = part_at files dataset parts c.requires.valid are place meta c.listed_part-part.ensures in
     c.in_err-found.ensures.whole p.0 (subst (λ f. IsPartAt f dataset.dir meta p.0) (sym c.loop-place.invariant.kept) (are.each place meta p.0 c.listed_part-part.ensures p.1)))
+
+pub returns-in_err-found-clause-looks : goal.returns-in_err-found-clause-looks
+returns-in_err-found-clause-looks g c =
+    AddsOnly-trans (IsPlanLook c.args.dataset.now c.args.plan.now) (g.S.Store.reads c.args.store.now) (g.S.Store.reads c.loop-place.store)
+    (g.S.Store.reads c.choose_in.new.store) c.loop-place.invariant.looked c.choose_in.ensures.looks
 
 pub returns-in_err-found-clause-reads : goal.returns-in_err-found-clause-reads
 unfolding is_allowed_over
@@ -58,6 +65,11 @@ returns-in_err-found-clause-steps g c parts are =
     refused_steps files dataset parts plan (allowed_of dataset plan) c.requires.valid are (named files dataset plan c.requires.valid c.requires.fits)
     (g.S.Store.reads c.args.store.now) (g.S.Store.reads c.loop-place.store) c.args.steps.now c.loop-place.steps c.choose_in.new.steps place p.0 p.1
     (before.chosen.walked parts are) (c.choose_in.ensures.steps p.0 is)
+
+pub returns-in_err-keep-clause-looks : goal.returns-in_err-keep-clause-looks
+returns-in_err-keep-clause-looks g c =
+    AddsOnly-trans (IsPlanLook c.args.dataset.now c.args.plan.now) (g.S.Store.reads c.args.store.now) (g.S.Store.reads c.loop-place.store)
+    (g.S.Store.reads c.choose_in.new.store) c.loop-place.invariant.looked c.choose_in.ensures.looks
 
 pub returns-in_err-keep-clause-reads : goal.returns-in_err-keep-clause-reads
 unfolding is_allowed_over
@@ -119,6 +131,7 @@ loop-place-preserved g c =
     record {
       unfailed = (rw c.in_ok-found.was at c.choose_in.ensures.cause).told (λ e. cc) ∙ before.unfailed;
       kept = c.choose_in.ensures.files ∙ before.kept;
+      looked = AddsOnly-trans (IsPlanLook dataset plan) old mid new before.looked c.choose_in.ensures.looks;
       chosen = subst (λ vs. ChosenTo files dataset plan old c.args.steps.now (place + 1) vs (c.loop-place.hits + found.count) (c.loop-place.checked + found.checked) new c.choose_in.new.steps)
           (sym c.in_ok-keep.ensures) more;
     }

@@ -74,8 +74,8 @@ refused_outcome input w long = rw long refl
 run_outcome : (input : List ℕ) (w : World) → is_long input ≡ false → session_outcome input w ≡ lines_outcome (lines_of input) w
 run_outcome input w short = rw short refl
 
-module _ (left : Option (List ℕ)) (old new : Outside) (status : Status) where
-  pub session_replies : SessionRuns left old new status
+module _ (left now : Option (List ℕ)) (old new : Outside) (status : Status) where
+  pub session_replies : SessionRuns left now old new status
       → ForSomeInput left (λ bytes. (w : World) → StandsFor old.files w → Replies (session_outcome bytes w) status old.written new.written)
   session_replies (Refuses long only says) =
       record {
@@ -90,13 +90,13 @@ module _ (left : Option (List ℕ)) (old new : Outside) (status : Status) where
         told = some_told left;
         holds = λ w stands. Replies-quiet (session_outcome (some_input left) w) status old.written new.written (read_fault status is) (same_written old new same);
       }
-  session_replies (Runs end at_end lines) =
+  session_replies (Runs at_end lines) =
       record {
         input = lines.input;
         told = lines.told;
         holds = λ w stands.
             subst (λ (o : Outcome). Replies o status old.written new.written) (sym (run_outcome lines.input w lines.holds.0))
-            (lines_reply (lines_of lines.input) end old new status lines.holds.1 w stands);
+            (lines_reply (lines_of lines.input) now old new status lines.holds.1 w stands);
       }
 
   same_leaves : (effects : List Effect) (w : World) → SameFiles old.files new.files → StandsFor old.files w → is_fault status ≡ true → LeavesAfter effects w status new.files
@@ -109,7 +109,7 @@ module _ (left : Option (List ℕ)) (old new : Outside) (status : Status) where
         none = λ e. refl;
       }
 
-  pub session_leaves : SessionRuns left old new status
+  pub session_leaves : SessionRuns left now old new status
       → ForSomeInput left (λ bytes. (w : World) → StandsFor old.files w → LeavesAfter (session_outcome bytes w).effects w status new.files)
   session_leaves (Refuses long only says) =
       record {
@@ -124,26 +124,26 @@ module _ (left : Option (List ℕ)) (old new : Outside) (status : Status) where
         told = some_told left;
         holds = λ w stands. same_leaves (session_outcome (some_input left) w).effects w (same_files old new same) stands (read_fault status is);
       }
-  session_leaves (Runs end at_end lines) =
+  session_leaves (Runs at_end lines) =
       record {
         input = lines.input;
         told = lines.told;
         holds = λ w stands.
             subst (λ (o : Outcome). LeavesAfter o.effects w status new.files) (sym (run_outcome lines.input w lines.holds.0))
-            (lines_leave (lines_of lines.input) end old new status lines.holds.1 w stands);
+            (lines_leave (lines_of lines.input) now old new status lines.holds.1 w stands);
       }
 
-  pub session_keeps : SessionRuns left old new status → ForSomeInput left (λ bytes. ChangesAmong (IsOfAsked OfSession bytes) old.files new.files)
+  pub session_keeps : SessionRuns left now old new status → ForSomeInput left (λ bytes. ChangesAmong (IsOfAsked OfSession bytes) old.files new.files)
   session_keeps (Refuses long only says) = record { input = long.input; told = long.told; holds = ChangesAmong-same old.files new.files only.files }
   session_keeps (Unread same is) = record { input = some_input left; told = some_told left; holds = ChangesAmong-same old.files new.files (same_files old new same) }
-  session_keeps (Runs end at_end lines) =
-      record { input = lines.input; told = lines.told; holds = lines_keep (lines_of lines.input) end old new status lines.holds.1 }
+  session_keeps (Runs at_end lines) =
+      record { input = lines.input; told = lines.told; holds = lines_keep (lines_of lines.input) now old new status lines.holds.1 }
 
-  pub session_refused : SessionRuns left old new status → is_fault status ≡ false → status ≢ Done → SameFiles old.files new.files
+  pub session_refused : SessionRuns left now old new status → is_fault status ≡ false → status ≢ Done → SameFiles old.files new.files
   session_refused (Refuses long only says) plain other = only.files
   session_refused (Unread same is) plain other = same_files old new same
-  session_refused (Runs end at_end lines) plain other =
-      absurd (other (lines_end (lines_of lines.input) end old new status lines.holds.1 plain))
+  session_refused (Runs at_end lines) plain other =
+      absurd (other (lines_end (lines_of lines.input) now old new status lines.holds.1 plain))
 
   refused_cause : (long : ForSomeInput left (λ input. is_long input ≡ true)) → (is_fault status ≡ true) ⊎ (status ≡ too_long)
       → HasCauseIn (SessionComesTo left) status
@@ -166,27 +166,35 @@ module _ (left : Option (List ℕ)) (old new : Outside) (status : Status) where
         is = is;
       })
 
-  done_or : (end : Option (List ℕ)) (lines : List (List ℕ)) → LinesRun lines end old new status
+  done_or : (lines : List (List ℕ)) → LinesRun lines now old new status
       → (is_fault status ≡ true) ⊎ (is_fault status ≡ false) → (is_fault status ≡ true) ⊎ (status ≡ Done)
-  done_or end lines run (inl fault) = inl fault
-  done_or end lines run (inr plain) = inr (lines_end lines end old new status run plain)
+  done_or lines run (inl fault) = inl fault
+  done_or lines run (inr plain) = inr (lines_end lines now old new status run plain)
 
-  pub session_cause : SessionRuns left old new status → HasCauseIn (SessionComesTo left) status
+  pub session_cause : SessionRuns left now old new status → HasCauseIn (SessionComesTo left) status
   session_cause (Refuses long only says) =
       refused_cause long (ended_by (refused too_long) status old.written new.written (is_fault status) refl (replied (refused too_long) status old.written new.written says))
   session_cause (Unread same is) = inl (read_fault status is)
-  session_cause (Runs end at_end lines) =
-      lines_cause lines.input lines.told lines.holds.0 (done_or end (lines_of lines.input) lines.holds.1 (either status))
+  session_cause (Runs at_end lines) =
+      lines_cause lines.input lines.told lines.holds.0 (done_or (lines_of lines.input) lines.holds.1 (either status))
 
 -- ---- reading its input
 
 -- all of it was read, and its lines ran
-pub session_ran : (left mid : Option (List ℕ)) (bytes : List ℕ) (old new : Outside) (status : Status)
+read_all : (left mid : Option (List ℕ)) (bytes : List ℕ) (old new : Outside) (status : Status)
     → Takes left mid bytes → IsAtEnd mid → length bytes ≤ most_session_bytes → LinesRun (lines_of bytes) mid old new status
-    → SessionRuns left old new status
-session_ran left mid bytes old new status taken end within runs =
+    → SessionRuns left mid old new status
+read_all left mid bytes old new status taken end within runs =
     let short : is_long bytes ≡ false = lt-leb (most_session_bytes + 1) (length bytes) (omega arith) in
-    Runs mid end (record { input = bytes; told = all_taken left mid bytes taken end; holds = (short, runs) })
+    Runs end (record { input = bytes; told = all_taken left mid bytes taken end; holds = (short, runs) })
+
+-- the same where no line took from what was left
+pub session_ran : (left mid now : Option (List ℕ)) (bytes : List ℕ) (old new : Outside) (status : Status)
+    → Takes left mid bytes → IsAtEnd mid → length bytes ≤ most_session_bytes → LinesRun (lines_of bytes) mid old new status
+    → now ≡ mid → SessionRuns left now old new status
+session_ran left mid now bytes old new status taken end within runs same =
+    subst (λ (l : Option (List ℕ)). SessionRuns left l old new status) (sym same)
+    (read_all left mid bytes old new status taken end within runs)
 
 long_input : (left mid : Option (List ℕ)) (bytes : List ℕ) → Takes left mid bytes → most_session_bytes < length bytes
     → ForSomeInput left (λ input. is_long input ≡ true)
@@ -200,7 +208,7 @@ long_input (Some all) mid bytes taken more =
 pub session_long : (left mid : Option (List ℕ)) (old new : Outside) (status refusal : Status) (told block : ℕ)
     → (told ≡ most_session_bytes) × TakesSome left mid (λ n. (most_session_bytes < n) × (n ≤ most_session_bytes + block))
     → refusal ≡ Limit limit.Session (told + 1) told → OnlyPrints old new → Prints refusal (line_of refusal) old.written new.written status
-    → SessionRuns left old new status
+    → SessionRuns left mid old new status
 session_long left mid old new status refusal told block h is only prints =
     let limit_is = h.0 in
     let same : refusal ≡ too_long = is ∙ ap (λ n. Limit limit.Session (n + 1) n) limit_is in

@@ -83,19 +83,19 @@ pub record OnlyPrints (old new : Outside) : Type 0 where
   pub reads : new.reads ≡ old.reads
   pub steps : new.steps ≡ old.steps
 
--- A session ended before it ran a line, or ran those of its input, behind which nothing was left of it.
-pub data SessionRuns (left : Option (List ℕ)) (old new : Outside) (status : Status) : Type 0 where
+-- A session ended before it ran a line, or read its input to the end and ran the lines of it. `left` and `now` are what the source
+-- has left before and after.
+pub data SessionRuns (left now : Option (List ℕ)) (old new : Outside) (status : Status) : Type 0 where
   Refuses : ForSomeInput left (λ input. is_long input ≡ true) → OnlyPrints old new
-      → Says (λ reply. reply ≡ refused too_long) status old.written new.written → SessionRuns left old new status
-  Unread : new ≡ old → (status ≡ ReadFault) ⊎ (status ≡ OutOfMemory) → SessionRuns left old new status
-  Runs : (end : Option (List ℕ)) → IsAtEnd end
-      → ForSomeInput left (λ input. (is_long input ≡ false) × LinesRun (lines_of input) end old new status)
-      → SessionRuns left old new status
+      → Says (λ reply. reply ≡ refused too_long) status old.written new.written → SessionRuns left now old new status
+  Unread : new ≡ old → (status ≡ ReadFault) ⊎ (status ≡ OutOfMemory) → SessionRuns left now old new status
+  Runs : IsAtEnd now → ForSomeInput left (λ input. (is_long input ≡ false) × LinesRun (lines_of input) now old new status)
+      → SessionRuns left now old new status
 
 -- how it ran: a session line by line, a command by itself with what it comes to printed
-abbrev pub AskedRuns : Asked → Option (List ℕ) → Outside → Outside → Status → Type 0
-AskedRuns OfSession left old new status = SessionRuns left old new status
-AskedRuns (Of command) left old new status = Says (ComesTo command left old.files) status old.written new.written
+abbrev pub AskedRuns : Asked → (left now : Option (List ℕ)) → Outside → Outside → Status → Type 0
+AskedRuns OfSession left now old new status = SessionRuns left now old new status
+AskedRuns (Of command) left now old new status = Says (ComesTo command left old.files) status old.written new.written
 
 -- ---- of a command by itself; a session's lines say it each for itself
 

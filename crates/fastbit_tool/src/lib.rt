@@ -63,7 +63,7 @@ pub fn run<I: Source, S: Store, K: Sink, L: Ledger>(
     // Each status has its cause, and what it comes to is printed. A session runs line by line, and each line keeps the
     // clauses of its command, with the reads and the steps.
     ensures causes { HasCauseIn (AskedComesTo (asked_of (asked_by words.now)) (I.left input.old) (S.files store.old)) result }
-    ensures prints { AskedRuns (asked_of (asked_by words.now)) (I.left input.old)
+    ensures prints { AskedRuns (asked_of (asked_by words.now)) (I.left input.old) (I.left input.new)
         (outside (S.files store.old) (S.reads store.old) (K.written out.old) steps.old)
         (outside (S.files store.new) (S.reads store.new) (K.written out.new) steps.new) result }
 

@@ -51,7 +51,7 @@ pub fn session<I: Source, S: Store, K: Sink, L: Ledger>(
 
     // It is refused exactly where the input is too long, and else its lines ran, each by the clauses of its command.
     ensures causes { HasCauseIn (SessionComesTo (I.left input.old)) result }
-    ensures ran { SessionRuns (I.left input.old)
+    ensures ran { SessionRuns (I.left input.old) (I.left input.new)
         (outside (S.files store.old) (S.reads store.old) (K.written out.old) steps.old)
         (outside (S.files store.new) (S.reads store.new) (K.written out.new) steps.new) result }
 
@@ -70,7 +70,7 @@ fn run_session<I: Source, S: Store, K: Sink, L: Ledger>(
     out: &mut K,
     steps: &mut Steps<L>,
 ) -> Status
-    ensures ran { SessionRuns (I.left input.old)
+    ensures ran { SessionRuns (I.left input.old) (I.left input.new)
         (outside (S.files store.old) (S.reads store.old) (K.written out.old) steps.old)
         (outside (S.files store.new) (S.reads store.new) (K.written out.new) steps.new) result }
     ensures end { result ≡ Status.Done → IsAtEnd (I.left input.new) }
@@ -156,6 +156,7 @@ fn is_fault(status: &Status) -> bool
 }
 
 /// Runs one line: the command that its words spell, a refusal where they spell none, nothing where it is skipped.
+#[tactic(auto, using(crate::proofs::RequestLemmas::quiet_line))]
 fn run_line<I: Source, S: Store, K: Sink, L: Ledger>(
     alloc: Global,
     line: &[u8],

@@ -7,8 +7,9 @@ use Rattle.fastbit_tool.proofs.sessions.run_session.Goals as goal
 pub returns-in-Ok-clause-ran : goal.returns-in-Ok-clause-ran
 returns-in-Ok-clause-ran g c =
     let text_is = c.deref.ensures.value in
-    session_ran (g.I.Source.left c.args.input.now) (g.I.Source.left c.read_input.new.input) c.in-Ok.bytes.items _ _ c.run_lines.result
-    c.in-Ok.ensures.taken c.in-Ok.ensures.end c.in-Ok.ensures.within (rw text_is at c.run_lines.ensures.runs)
+    session_ran (g.I.Source.left c.args.input.now) (g.I.Source.left c.read_input.new.input) (g.I.Source.left c.run_lines.new.input)
+    c.in-Ok.bytes.items _ _ c.run_lines.result c.in-Ok.ensures.taken c.in-Ok.ensures.end c.in-Ok.ensures.within
+    (rw text_is at c.run_lines.ensures.runs) c.run_lines.ensures.untouched.0
 
 pub returns-in-Ok-clause-read_cause : goal.returns-in-Ok-clause-read_cause
 returns-in-Ok-clause-read_cause g c =

@@ -131,6 +131,16 @@ fn numbers<R: Abort + AllocGlobal, L: Ledger>(
     Ok((bounds.definite, bounds.possible, count, hits.checked))
 }
 
+/// The same with a counter of its own.
+fn asked<R: Abort + AllocGlobal + Count>(
+    rt: &R,
+    store: &mut MemStore,
+    under: Place,
+    text: &str,
+) -> Result<Numbers, EvalFault> {
+    numbers::<R, Brand>(rt, rt.blank(), store, under, text)
+}
+
 fn gives<R: Abort + AllocGlobal + Count>(
     rt: &R,
     files: &[File],
@@ -140,7 +150,7 @@ fn gives<R: Abort + AllocGlobal + Count>(
     want: Numbers,
 ) {
     let mut store = store(rt, files, more, &[]);
-    match numbers::<R, Brand>(rt, rt.blank(), &mut store, under, text) {
+    match asked(rt, &mut store, under, text) {
         Ok(have) => assert!(rt; have == want),
         Err(_) => rt.panic("no answer"),
     }
@@ -278,6 +288,11 @@ fn evaluated<R: Abort + AllocGlobal, L: Ledger>(
     store
 }
 
+/// The same with a counter of its own.
+fn read_by<R: Abort + AllocGlobal + Count>(rt: &R, index: &[File], text: &str) -> MemStore {
+    evaluated::<R, Brand>(rt, rt.blank(), index, text)
+}
+
 /// The bitmaps that are read, in their order, and the values: those of rows 7 to 9 at once.
 #[test]
 fn needed_bitmaps_and_candidates_are_read(rt: HostRuntime) -> Result<(), Fail> {
@@ -294,16 +309,16 @@ fn needed_bitmaps_and_candidates_are_read(rt: HostRuntime) -> Result<(), Fail> {
         (TEN_TWO_LEVEL, 238, &[(274, 12), (250, 12)]),
     ];
     for (more, first, want) in bitmaps {
-        let store = evaluated::<_, Brand>(&rt, rt.blank(), more, "3 < a < 9");
+        let store = read_by(&rt, more, "3 < a < 9");
         assert!(rt; reads_from(&rt, &store, index, first).as_slice() == want);
         assert!(rt; reads_from(&rt, &store, values, 0).as_slice() == [(28, 12)].as_slice());
     }
-    let store = evaluated::<_, Brand>(&rt, rt.blank(), &[], "a < 4");
+    let store = read_by(&rt, &[], "a < 4");
     assert!(rt; reads_from(&rt, &store, index, 195).as_slice() == [(195, 12)].as_slice());
     assert!(rt; reads_from(&rt, &store, values, 0).is_empty());
-    let store = evaluated::<_, Brand>(&rt, rt.blank(), &[], "a < 9 and b = 1");
+    let store = read_by(&rt, &[], "a < 9 and b = 1");
     assert!(rt; reads_from(&rt, &store, values, 0).as_slice() == [(28, 4)].as_slice());
-    let store = evaluated::<_, Brand>(&rt, rt.blank(), &[], "a in (8, 10) and b != 7");
+    let store = read_by(&rt, &[], "a in (8, 10) and b != 7");
     assert!(rt; reads_from(&rt, &store, values, 0).as_slice() == [(28, 12)].as_slice());
     Ok(())
 }
@@ -317,11 +332,11 @@ fn damaged_files_are_told(rt: HostRuntime) -> Result<(), Fail> {
         &[("D/p0000/b.msk", b""), ("D/p0000/b.idx", b"FBIX")],
         &[],
     );
-    match numbers::<_, Brand>(&rt, rt.blank(), &mut first, D, "b = 1") {
+    match asked(&rt, &mut first, D, "b = 1") {
         Err(EvalFault::Col(1, ColFault::Mask(_))) => (),
         _ => rt.panic("the mask passes"),
     }
-    match numbers::<_, Brand>(&rt, rt.blank(), &mut first, D, "a < 9") {
+    match asked(&rt, &mut first, D, "a < 9") {
         Ok(have) => assert!(rt; have == (7, 10, 8, 3)),
         Err(_) => rt.panic("no answer"),
     }
@@ -331,11 +346,11 @@ fn damaged_files_are_told(rt: HostRuntime) -> Result<(), Fail> {
         &[("D/p0000/b.idx", b"FBIX"), ("D/p0000/a", b"")],
         &[],
     );
-    match numbers::<_, Brand>(&rt, rt.blank(), &mut second, D, "b = 1") {
+    match asked(&rt, &mut second, D, "b = 1") {
         Err(EvalFault::Index(1, IndexFault::Short)) => (),
         _ => rt.panic("the index passes"),
     }
-    match numbers::<_, Brand>(&rt, rt.blank(), &mut second, D, "a < 9") {
+    match asked(&rt, &mut second, D, "a < 9") {
         Err(EvalFault::Col(0, ColFault::WrongLength { want: 40, have: 0 })) => (),
         _ => rt.panic("the values pass"),
     }
@@ -345,11 +360,11 @@ fn damaged_files_are_told(rt: HostRuntime) -> Result<(), Fail> {
         &[("W/p0000/c.dic", b"\x01"), ("W/p0000/t.sp", b"")],
         &[],
     );
-    match numbers::<_, Brand>(&rt, rt.blank(), &mut third, W, "c = 'x'") {
+    match asked(&rt, &mut third, W, "c = 'x'") {
         Err(EvalFault::Words(0, DicFault::Short)) => (),
         _ => rt.panic("the words pass"),
     }
-    match numbers::<_, Brand>(&rt, rt.blank(), &mut third, W, "t = 'x'") {
+    match asked(&rt, &mut third, W, "t = 'x'") {
         Err(EvalFault::Text(1, TextFault::StartsLength { want: 48, have: 0 })) => (),
         _ => rt.panic("the starts pass"),
     }
@@ -369,7 +384,7 @@ fn failing_calls_are_told(rt: HostRuntime) -> Result<(), Fail> {
         if call < 2 {
             continue;
         }
-        match numbers::<_, Brand>(&rt, rt.blank(), &mut store, D, "3 < a < 9") {
+        match asked(&rt, &mut store, D, "3 < a < 9") {
             Ok(have) => {
                 answers += 1;
                 assert!(rt; have == (4, 7, 5, 3));

@@ -1,5 +1,5 @@
 -- The bins of an index one by one, and the runs of one bin more.
-use Rattle.std.proofs.Common.{◌≡◌, ℕ, zero, suc, ◌+◌, ◌<◌, ℤ, ◌≤ℤ◌, List, [], ◌∷◌, ◌++◌, None, length, map, take, get_or, sym, ap, ◌∙◌, arith}
+use Rattle.std.proofs.Common.{◌≡◌, ℕ, zero, suc, ◌+◌, ◌<◌, ℤ, ◌≤ℤ◌, List, [], ◌∷◌, None, length, map, take, get_or, sym, ap, ◌∙◌, arith}
 use Rattle.std.proofs.lemmas.List.{length-map, length-take, map-append}
 use Rattle.index_file.specs.Order.{AreAbove, AreInOrder, first_out_of_order}
 use Rattle.index_file.specs.declared.edge.Edge.{Edge}

@@ -1,10 +1,10 @@
 -- Bitmaps that are fetched one behind another: their first fault, and their reads.
 use Rattle.std.proofs.Common.{◌≡◌, ℕ, zero, suc, ◌+◌, ◌<◌, Option, Some, None, Result, Ok, Err, Bool, cond, inl, inr, All, List, [], ◌∷◌, ◌++◌, map, length, take, drop, get_or, refl, sym, ap, ◌∙◌, subst, arith, append_assoc, append-nil, length-append}
-use Rattle.std.specs.Prelude.{IfSome, is_some, true}
+use Rattle.std.specs.Prelude.{IfSome}
 use Rattle.std.proofs.lemmas.List.{map-append}
 use Rattle.fb_outside.specs.Causes.{HasCause, Rose}
-use Rattle.fb_outside.specs.Files.{Files, file_at}
-use Rattle.fb_outside.specs.Reads.{AddsRead, AddsReads, IsNoteOf, Look}
+use Rattle.fb_outside.specs.Files.{Files}
+use Rattle.fb_outside.specs.Reads.{AddsRead, IsNoteOf, Look}
 use Rattle.fb_outside.proofs.ReadLemmas.{AddsReads-same, AddsReads-trans, AddsReads-weaken}
 use Rattle.binning.specs.Encodings.{vectors}
 use Rattle.binning.specs.Members.{bitmap}

@@ -1,5 +1,5 @@
 -- The bitmaps of a file that is written of some bins.
-use Rattle.std.proofs.Common.{◌≡◌, ℕ, zero, suc, ◌+◌, ◌-◌, ◌<◌, ◌≤◌, Bool, Option, Some, None, Ok, List, [], ◌∷◌, length, map, take, drop, get_or, unwrap_or, refl, sym, ap, ◌∙◌, arith}
+use Rattle.std.proofs.Common.{◌≡◌, ℕ, zero, suc, ◌+◌, ◌-◌, ◌<◌, Bool, Option, Some, List, [], ◌∷◌, length, map, take, drop, get_or, unwrap_or, refl, sym, ap, ◌∙◌, arith}
 use Rattle.std.specs.List.{range_with_len, slice_get}
 use Rattle.std.proofs.lemmas.List.{length-map}
 use Rattle.std.proofs.lemmas.List.FromFn.{length-range_with_len}
@@ -8,9 +8,8 @@ use Rattle.wah_words.specs.Bytes.{spelling}
 use Rattle.index_spec.specs.Counts.{bitmap_count}
 use Rattle.index_spec.specs.Printed.{printed}
 use Rattle.index_file.specs.Fetching.{bitmap_in}
-use Rattle.index_file.specs.IndexFile.{index_bytes, places_of}
+use Rattle.index_file.specs.IndexFile.{places_of}
 use Rattle.index_file.specs.Places.{head_size, places_from, room_at}
-use Rattle.index_file.specs.declared.edge.Edge.{Edge}
 use Rattle.index_file.specs.declared.head.IndexHead.{IndexHead}
 use Rattle.index_file.proofs.PlacesLemmas.{length-places}
 use Rattle.index_file.proofs.WrittenLemmas.{bitmap_read, bitmap_there}
@@ -20,7 +19,7 @@ use Rattle.binning.specs.declared.gathering.Bin.{Bin}
 use Rattle.index_spec.specs.Members.{member}
 use Rattle.binning.proofs.MembersLemmas.{length-union_of}
 use Rattle.bin_answers.specs.Bins.{edge_of}
-use Rattle.bin_answers.specs.Fetched.{HasBins, bitmap_at}
+use Rattle.bin_answers.specs.Fetched.{HasBins}
 use Rattle.bin_answers.specs.Written.{IsWritten}
 
 first_place : (at : ℕ) (bitmaps : List (List Bool)) → get_or (places_from at bitmaps) 0 0 ≡ at

@@ -3,6 +3,7 @@
 ghost use Rattle.std.specs.Prelude.{◌≡◌, ◌+◌, ◌*◌, ◌<◌, ◌≤◌, All, IfErr, IfOk, IsErrOf, IsOk, List, [], ◌∷◌, length, map};
 ghost use Rattle.fb_outside.specs.Causes.{HasCause};
 ghost use Rattle.fb_outside.specs.Files.{SameFiles};
+ghost use Rattle.fb_outside.specs.Reads.{AddsOnly};
 ghost use Rattle.wah_logic.specs.Logic.{groups_and_rest};
 ghost use Rattle.index_spec.specs.Members.{needed};
 ghost use Rattle.index_file.specs.declared.fault.IndexFault.{IndexFault};
@@ -50,6 +51,7 @@ impl OpenIndex {
         ensures files { SameFiles (S.files store.old) (S.files store.new) }
         ensures exact { Tells (S.files store.old) self.now.head (needed_on self.now.head spans.now) result }
         ensures reads { Fetches (S.files store.old) (S.reads store.old) (S.reads store.new) self.now.head (needed_on self.now.head spans.now) (IsOk result) }
+        ensures looks { AddsOnly (λ look. look.name ≡ self.now.head.name) (S.reads store.old) (S.reads store.new) }
         ensures length { IfOk result (λ a. length a ≡ length self.now.mask) }
         ensures steps { steps.new ≤ steps.old + 2 * groups_and_rest (length self.now.mask)
             * (4 * (length (needed_on self.now.head spans.now) + length (runs_on self.now.head spans.now))) }
@@ -78,6 +80,7 @@ impl OpenIndex {
         ensures files { SameFiles (S.files store.old) (S.files store.new) }
         ensures exact { Tells (S.files store.old) self.now.head (needed_by self.now.head runs.now) result }
         ensures reads { Fetches (S.files store.old) (S.reads store.old) (S.reads store.new) self.now.head (needed_by self.now.head runs.now) (IsOk result) }
+        ensures looks { AddsOnly (λ look. look.name ≡ self.now.head.name) (S.reads store.old) (S.reads store.new) }
         ensures definite_long { IfOk result (λ found. All (λ v. length v ≡ length self.now.mask) found.definite.items) }
         ensures unknown_long { IfOk result (λ found. All (λ v. length v ≡ length self.now.mask) found.unknown.items) }
         ensures count { IfOk result (λ found. length found.definite.items + length found.unknown.items ≤ length runs.now) }
@@ -112,6 +115,7 @@ impl OpenIndex {
         ensures files { SameFiles (S.files store.old) (S.files store.new) }
         ensures exact { Tells (S.files store.old) self.now.head (needed_by self.now.head (run ∷ [])) result }
         ensures reads { Fetches (S.files store.old) (S.reads store.old) (S.reads store.new) self.now.head (needed_by self.now.head (run ∷ [])) (IsOk result) }
+        ensures looks { AddsOnly (λ look. look.name ≡ self.now.head.name) (S.reads store.old) (S.reads store.new) }
         ensures length { IfOk result (λ v. length v ≡ length self.now.mask) }
         ensures steps { steps.new ≤ steps.old + 2 * groups_and_rest (length self.now.mask) * (length (needed_by self.now.head (run ∷ [])) + 2) }
         ensures rows { IfOk result (λ v. (bins : List Bin) → HasBins (S.files store.old) self.now.head self.now.mask bins
@@ -139,6 +143,7 @@ impl OpenIndex {
         ensures files { SameFiles (S.files store.old) (S.files store.new) }
         ensures exact { Tells (S.files store.old) self.now.head numbers.now result }
         ensures reads { Fetches (S.files store.old) (S.reads store.old) (S.reads store.new) self.now.head numbers.now (IsOk result) }
+        ensures looks { AddsOnly (λ look. look.name ≡ self.now.head.name) (S.reads store.old) (S.reads store.new) }
         ensures count { IfOk result (λ all. length all.items ≡ length numbers.now) }
         ensures long { IfOk result (λ all. All (λ v. length v ≡ length self.now.mask) all.items) }
         ensures bitmaps { IfOk result (λ all. (bins : List Bin) → HasBins (S.files store.old) self.now.head self.now.mask bins
@@ -159,6 +164,7 @@ impl OpenIndex {
         ensures files { SameFiles (S.files store.old) (S.files store.new) }
         ensures exact { Tells (S.files store.old) self.now.head (k ∷ []) result }
         ensures reads { Fetches (S.files store.old) (S.reads store.old) (S.reads store.new) self.now.head (k ∷ []) (IsOk result) }
+        ensures looks { AddsOnly (λ look. look.name ≡ self.now.head.name) (S.reads store.old) (S.reads store.new) }
         ensures length { IfOk result (λ v. length v ≡ length self.now.mask) }
         ensures bitmap { IfOk result (λ v. (bins : List Bin) → HasBins (S.files store.old) self.now.head self.now.mask bins
             → v ≡ bitmap self.now.head.spec.encoding (length self.now.mask) (vectors bins) k) }

@@ -30,7 +30,7 @@ use Rattle.commands.specs.Command.{Builds}
 use Rattle.commands.specs.Reply.{is_fault}
 use Rattle.commands.specs.Effects.{IsAskedIndex, LeavesAfter}
 use Rattle.commands.specs.Causes.{told_of}
-use Rattle.commands.specs.Runs.{Answers, BuildRuns, Leaves, Prints, PrintsGiven, Runs, SaysSame, Stops, Unstored}
+use Rattle.commands.specs.Runs.{BuildRuns, Leaves, Prints, PrintsGiven, Replied, Runs, SaysSame, Stops, Unstored}
 use Rattle.commands.proofs.PrintLemmas.{not_read, some_input, some_told}
 use Rattle.commands.proofs.Refusals.{IsRefusal, IsRefusal-asked, IsRefusal-build}
 
@@ -71,7 +71,7 @@ module _ (dir text : List ℕ) (list : Option (List ℕ)) (left : Option (List �
   ran : (given : Result ℕ Unanswered) → BuildGives dir text list old given → Leave given → (IsErrOf given unanswered.StoreFault → is_ok (spec_of text) ≡ true)
       → PrintsGiven given before now status → Runs (Builds dir text list) left old before now status
   ran (Ok count) gives leave asks prints =
-      Answers (told_of (Ok count)) (record { result = Ok count; comes = gives; is = refl })
+      Replied (told_of (Ok count)) (record { result = Ok count; comes = gives; is = refl })
       (record {
         input = some_input left;
         told = some_told left;
@@ -80,7 +80,7 @@ module _ (dir text : List ℕ) (list : Option (List ℕ)) (left : Option (List �
       refl prints
   ran (Err (unanswered.Refused why)) gives leave asks prints =
       let refusal : IsRefusal why = IsRefusal-build dir text list old why gives in
-      Answers (told_of (Err why)) (record { result = Err why; comes = gives; is = refl })
+      Replied (told_of (Err why)) (record { result = Err why; comes = gives; is = refl })
       (record {
         input = some_input left;
         told = some_told left;

@@ -26,7 +26,7 @@ use Rattle.commands.specs.Command as command
 use Rattle.commands.specs.Command.{command_of, command_outcome}
 use Rattle.commands.specs.Reply.{is_fault}
 use Rattle.commands.specs.Effects.{IsOfCommand, LeavesAfter}
-use Rattle.commands.specs.Runs.{Answers, Cut, LoadRuns, LoadUnread, LoadUnstored, Loaded, Prints, Refuses, Runs, Stops, Unread, Unstored}
+use Rattle.commands.specs.Runs.{Cut, LoadRuns, LoadUnread, LoadUnstored, Loaded, Prints, Refuses, Replied, Runs, Stops, Unread, Unstored}
 use Rattle.commands.proofs.PrintLemmas.{not_read, some_input, some_told}
 use Rattle.commands.proofs.Refusals.{IsRefusal-load}
 use Rattle.commands.proofs.RunLemmas.{same_says}
@@ -53,7 +53,7 @@ answers_load : (load : Load) (left : Option (List ℕ)) (files : Option Files) (
     → Prints (outcome_of load result).status (outcome_of load result).text before after status
     → Runs (command.Loads load) left files before after status
 answers_load load left files before after status result valid g plain prints =
-    Answers (outcome_of load result) (record { result = result; given = g; is = refl })
+    Replied (outcome_of load result) (record { result = result; given = g; is = refl })
     (record { input = g.situation.input; told = g.situation.input_told; holds = λ w h. same_says (outcome_of load result) (load_outcome load g.situation.input w) (outcome_in load left files w result valid h g) })
     plain prints
 

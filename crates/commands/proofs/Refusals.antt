@@ -1,17 +1,16 @@
 -- What a command is refused with is a refusal: neither a fault nor `Done`.
-use Rattle.std.proofs.Common.{◌≡◌, ◌≢◌, ◌+◌, ◌==◌, ℕ, Bool, true, false, not, List, [], ◌∷◌, ◌++◌, length, nat_le, Option, Some, None, Result, Ok, Err, refl, sym, ap, subst, ◌∙◌, if◌then◌else◌, is_some}
+use Rattle.std.proofs.Common.{◌≡◌, ◌≢◌, ◌+◌, ◌==◌, ℕ, Bool, true, false, not, List, [], ◌∷◌, ◌++◌, length, nat_le, Option, Some, None, Result, Ok, Err, refl, sym, ap, subst, ◌∙◌, if◌then◌else◌}
 use Rattle.std.specs.List.{list_any}
 use Rattle.fb_outside.specs.Files.{Files}
 use Rattle.fb_types.specs.declared.cells.Cell.{Cell}
 use Rattle.fb_types.specs.declared.schemas.Column.{Column}
 use Rattle.fb_types.specs.SchemaText.{SchemaFault, items_of, read_schema}
-use Rattle.fb_types.specs.Schemas.{place_of}
 use Rattle.fb_types.specs.Table.{Table}
-use Rattle.fb_types.specs.Types.{ends_of}
 use Rattle.csv_load.specs.Loaded.{Fault, loaded}
 use Rattle.command_words.specs.declared.Load.{Load}
+use Rattle.where_grammar.specs.declared.clause.Clause.{Clause}
 use Rattle.where_grammar.specs.declared.clause.QueryKind.{QueryKind}
-use Rattle.where_grammar.specs.declared.clause.QueryKind.TheVariants.{WrongType}
+use Rattle.where_plan.specs.Refusals.{refusal_of}
 use Rattle.part_meta.specs.declared.catalog.Catalog.{Catalog}
 use Rattle.dataset.specs.Appended.{Refusal, SchemaDiffers, TooManyNumbers, TooManyParts, refusal}
 use Rattle.dataset.specs.Found.{Absent, Broken, Found, There}
@@ -19,7 +18,7 @@ use Rattle.dataset.specs.declared.content.Dataset.{Dataset}
 use Rattle.dataset.specs.declared.fault.DamageKind.TheVariants.{Length}
 use Rattle.statuses.specs.declared.LimitKind.TheVariants as limit
 use Rattle.statuses.specs.declared.Status.{Status}
-use Rattle.statuses.specs.declared.Status.TheVariants.{BadQuery, BadSpec, Damaged, Done, Limit}
+use Rattle.statuses.specs.declared.Status.TheVariants.{BadSpec, Damaged, Done, Limit}
 use Rattle.statuses.specs.declared.Status.TheVariants as status
 use Rattle.statuses.specs.Outcome.{◌>>=◌}
 use Rattle.part_meta.specs.PartText.{most_rows}
@@ -29,14 +28,14 @@ use Rattle.index_spec.specs.declared.spec.Spec.{Spec}
 use Rattle.index_spec.specs.declared.spec.SpecKind.{SpecKind}
 use Rattle.index_spec.specs.declared.spec.SpecKind.TheVariants as spec
 use Rattle.statuses.specs.Opening.{damaged_status, dataset_or_refusal}
-use Rattle.ibis.specs.Count.{CountComes, CountsBy, asked_of}
+use Rattle.ibis_answer.specs.Answer.{asked_of}
+use Rattle.ibis_answer.specs.Causes.{Comes, ComesBy}
+use Rattle.ibis_answer.specs.Query.{clause_or_refusal, fits_or_refusal, read_clause, resolved}
 use Rattle.ibis_build.specs.Builds as builds
 use Rattle.ibis_build.specs.Builds.{Asked, spec_or_refusal}
 use Rattle.ibis_build.specs.Causes.{BuildComes, BuildsBy, Damages, IsRefused, Passes}
 use Rattle.ibis_build.specs.Columns.{can_have_index_at, chosen_columns, column_or_refusal, columns_behind, place_in}
 use Rattle.ibis.specs.Listing.{ListComes, ListsBy}
-use Rattle.ibis.specs.declared.query.Below.{Below}
-use Rattle.ibis.specs.Query.{column_in, query_or_refusal, read_query, resolved, typed_or_refusal}
 use Rattle.commands.specs.Reply.{is_fault}
 
 pub record IsRefusal (status : Status) : Type 0 where
@@ -147,35 +146,38 @@ dataset_so dir Absent = record { no_fault = refl; not_done = λ e. cc }
 dataset_so dir (There dataset) = tt
 dataset_so dir (Broken damage) = record { no_fault = refl; not_done = λ e. cc }
 
-query_so : (r : Result Below QueryKind) → FailsSo (query_or_refusal r)
+clause_so : (r : Result (Option Clause) QueryKind) → FailsSo (clause_or_refusal r)
 unfolding FailsSo
-query_so (Ok below) = tt
-query_so (Err kind) = record { no_fault = refl; not_done = λ e. cc }
+clause_so (Ok clause) = tt
+clause_so (Err kind) = record { no_fault = refl; not_done = λ e. cc }
 
-typed_so : (below : Below) (column : Option Column) → FailsSo (typed_or_refusal below column)
+fits_so : (clause : Option Clause) (why : Option QueryKind) → FailsSo (fits_or_refusal clause why)
 unfolding FailsSo
-typed_so below None = record { no_fault = refl; not_done = λ e. cc }
-typed_so below (Some column) =
-    limit_so below (BadQuery (WrongType below.name)) (is_some (ends_of column.ty)) (record { no_fault = refl; not_done = λ e. cc })
+fits_so clause None = tt
+fits_so clause (Some kind) = record { no_fault = refl; not_done = λ e. cc }
 
 asked_so : (dir query : List ℕ) (found : Found) → FailsSo (asked_of dir query found)
 unfolding asked_of
 asked_so dir query found =
-    step (query_or_refusal (read_query query)) _ (query_so (read_query query))
-    (λ below. step (dataset_or_refusal dir found) _ (dataset_so dir found)
-    (λ dataset. typed_so below (column_in dataset.schema (place_of dataset.schema below.name))))
+    step (clause_or_refusal (read_clause query)) _ (clause_so (read_clause query))
+    (λ clause. step (dataset_or_refusal dir found) _ (dataset_so dir found)
+    (λ dataset. fits_so clause (refusal_of dataset.schema clause)))
 
-count_by : (files : Option Files) (found : Found) (r : Result Below Status) (status : Status) → FailsSo r → CountsBy files found r (Err status)
-    → IsRefusal status
-count_by files found (Err why) status h counts =
-    let is : why ≡ status = let e : ◌≡◌ {A = Result ℕ Status} (Err status) (Err why) = counts in cc in
-    subst IsRefusal is (at_refusal Below why h)
-count_by files found (Ok below) status h counts =
-    record { no_fault = ap is_fault counts.1; not_done = λ e. let bad : Damaged counts.0.file counts.0.kind counts.0.want counts.0.have ≡ Done = sym counts.1 ∙ e in cc }
+answer_by : (A : Type 0) (files : Option Files) (found : Found) (r : Result (Option Clause) Status) (status : Status) → FailsSo r
+    → ComesBy {A = A} files found r (Err status) → IsRefusal status
+answer_by A files found (Err why) status h comes =
+    let is : why ≡ status = let e : ◌≡◌ {A = Result A Status} (Err status) (Err why) = comes in cc in
+    subst IsRefusal is (at_refusal (Option Clause) why h)
+answer_by A files found (Ok clause) status h comes =
+    let found = comes.0 in
+    record {
+      no_fault = ap is_fault comes.1;
+      not_done = λ e. let bad : Damaged found.file found.kind found.want found.have ≡ Done = sym comes.1 ∙ e in cc;
+    }
 
-pub IsRefusal-count : (dir query : List ℕ) (files : Option Files) (status : Status) → CountComes dir query files (Err status) → IsRefusal status
-IsRefusal-count dir query files status h =
-    count_by files h.found (asked_of dir query h.found) status (asked_so dir query h.found) h.counts
+pub IsRefusal-answer : {A : Type 0} (dir query : List ℕ) (files : Option Files) (status : Status) → Comes {A = A} dir query files (Err status) → IsRefusal status
+IsRefusal-answer {A} dir query files status h =
+    answer_by A files h.found (asked_of dir query h.found) status (asked_so dir query h.found) h.comes
 
 list_by : (files : Option Files) (r : Result Dataset Status) (status : Status) → FailsSo r → ListsBy files r (Err status) → IsRefusal status
 list_by files (Err why) status h is =

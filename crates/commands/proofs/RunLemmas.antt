@@ -15,14 +15,14 @@ use Rattle.statuses.specs.declared.Status.{Status}
 use Rattle.statuses.specs.declared.Status.TheVariants.{Done, Usage, ReadFault, StoreFault, SinkFault, OutOfMemory}
 use Rattle.statuses.specs.Lines.{line_of}
 use Rattle.statuses.specs.Outcome.{Outcome, refused}
-use Rattle.ibis.specs.Count.{answer_of, asked_of, count_outcome, counted}
+use Rattle.ibis_answer.specs.Answer.{answer_text, asked_in, between_in, between_line, counted_in, told}
 use Rattle.ibis.specs.Listing.{list_outcome, list_result, listed}
-use Rattle.commands.specs.Command.{Builds, Command, Counts, Lists, Loads, Unknown, command_of, command_of_task, command_outcome}
+use Rattle.commands.specs.Command.{Answers, Builds, Command, Estimates, Lists, Loads, Unknown, command_of, command_of_task, command_outcome}
 use Rattle.commands.specs.Reply.{Replies, RepliesBy, is_fault}
 use Rattle.commands.specs.Effects.{IsOfCommand, KeepsRefused, LeavesAfter}
 use Rattle.commands.specs.Causes.{ComesTo, HasCauseIn, Says, is_silent}
 use Rattle.commands.specs.Order.{Yields, asks_store, takes_input}
-use Rattle.commands.specs.Runs.{Answers, Leaves, Prints, Runs, SaysSame, Stops, Unread, Unstored}
+use Rattle.commands.specs.Runs.{Leaves, Prints, Replied, Runs, SaysSame, Stops, Unread, Unstored}
 use Rattle.commands.proofs.PrintLemmas.{Replies-prints, Replies-quiet, cause_printed, not_read, says_printed, says_silent, some_input, some_told, yields_printed}
 
 -- what says the same is the same reply
@@ -49,7 +49,7 @@ module _ (command : Command) (left : Option (List ℕ)) (files : Option Files) (
 
   pub run_replies : Runs command left files before after status
       → ForSomeInput left (λ bytes. (w : World) → StandsFor files w → Replies (command_outcome command bytes w) status before after)
-  run_replies (Answers reply comes world plain prints) =
+  run_replies (Replied reply comes world plain prints) =
       record {
         input = world.input;
         told = world.told;
@@ -62,26 +62,26 @@ module _ (command : Command) (left : Option (List ℕ)) (files : Option Files) (
   run_replies (Stops same is) = quiet status (ap is_fault is) same
 
   pub run_cause : Runs command left files before after status → HasCauseIn (ComesTo command left files) status
-  run_cause (Answers reply comes world plain prints) = cause_printed (ComesTo command left files) reply status before after comes prints
+  run_cause (Replied reply comes world plain prints) = cause_printed (ComesTo command left files) reply status before after comes prints
   run_cause (Unread takes same is) = inl (ap is_fault is)
   run_cause (Unstored asks same is) = inl (ap is_fault is)
   run_cause (Stops same is) = inl (ap is_fault is)
 
   pub run_says : Runs command left files before after status → Says (ComesTo command left files) status before after
-  run_says (Answers reply comes world plain prints) = says_printed (ComesTo command left files) reply status before after comes plain prints
+  run_says (Replied reply comes world plain prints) = says_printed (ComesTo command left files) reply status before after comes plain prints
   run_says (Unread takes same is) = says_silent (ComesTo command left files) status before after (ap is_silent is) same
   run_says (Unstored asks same is) = says_silent (ComesTo command left files) status before after (ap is_silent is) same
   run_says (Stops same is) = says_silent (ComesTo command left files) status before after (ap is_silent is) same
 
   pub run_yields : Runs command left files before after status → Yields command left status
-  run_yields (Answers reply comes world plain prints) = yields_printed command left reply.status reply.text status before after plain prints
+  run_yields (Replied reply comes world plain prints) = yields_printed command left reply.status reply.text status before after plain prints
   run_yields (Unread takes same is) = subst (Yields command left) (sym is) takes
   run_yields (Unstored asks same is) = subst (Yields command left) (sym is) asks
   run_yields (Stops same is) = subst (Yields command left) (sym is) tt
 
   -- a command that takes no input isn't stopped by it
   pub run_unread : takes_input command ≡ false → Runs command left files before after status → status ≢ ReadFault
-  run_unread none (Answers reply comes world plain prints) e = not_read reply.status reply.text before after status plain prints e
+  run_unread none (Replied reply comes world plain prints) e = not_read reply.status reply.text before after status plain prints e
   run_unread none (Unread takes same is) e = let bad : false ≡ true = sym none ∙ takes in cc
   run_unread none (Unstored asks same is) e = let bad : StoreFault ≡ ReadFault = sym is ∙ e in cc
   run_unread none (Stops same is) e = let bad : OutOfMemory ≡ ReadFault = sym is ∙ e in cc
@@ -90,14 +90,15 @@ module _ (command : Command) (left : Option (List ℕ)) (files : Option Files) (
 
 pub IsQuestion : Command → Type 0
 IsQuestion (Loads load) = ⊥
-IsQuestion (Counts dir query) = Unit {0}
+IsQuestion (Answers dir query tell) = Unit {0}
+IsQuestion (Estimates dir query) = Unit {0}
 IsQuestion (Builds dir text list) = ⊥
 IsQuestion (Lists dir) = Unit {0}
 IsQuestion Unknown = Unit {0}
 
-answer_none : (r : Result ℕ Status) → (answer_of r).effects ≡ []
-answer_none (Ok count) = refl
-answer_none (Err status) = refl
+told_none : {A : Type 0} (text : A → List ℕ) (r : Result A Status) → (told text r).effects ≡ []
+told_none text (Ok numbers) = refl
+told_none text (Err status) = refl
 
 listed_none : (r : Result (List ℕ) Status) → (listed r).effects ≡ []
 listed_none (Ok text) = refl
@@ -106,7 +107,8 @@ listed_none (Err status) = refl
 pub no_effects : (command : Command) (input : List ℕ) (w : World) → IsQuestion command → (command_outcome command input w).effects ≡ []
 unfolding IsQuestion
 no_effects (Loads load) input w h = absurd h
-no_effects (Counts dir query) input w h = answer_none (counted (asked_of dir query (found_in w dir)) (content_at w dir))
+no_effects (Answers dir query tell) input w h = told_none (answer_text tell) (asked_in counted_in dir query w)
+no_effects (Estimates dir query) input w h = told_none between_line (asked_in between_in dir query w)
 no_effects (Builds dir text list) input w h = absurd h
 no_effects (Lists dir) input w h = listed_none (list_result dir (found_in w dir) (content_at w dir))
 no_effects Unknown input w h = refl
@@ -114,7 +116,8 @@ no_effects Unknown input w h = refl
 pub question_takes : (command : Command) → IsQuestion command → takes_input command ≡ false
 unfolding IsQuestion
 question_takes (Loads load) h = absurd h
-question_takes (Counts dir query) h = refl
+question_takes (Answers dir query tell) h = refl
+question_takes (Estimates dir query) h = refl
 question_takes (Builds dir text list) h = absurd h
 question_takes (Lists dir) h = refl
 question_takes Unknown h = refl
@@ -134,7 +137,8 @@ leaves_same effects w status old new none h same =
 keeps_same : (command : Command) (old new : Option Files) → IsQuestion command → SameFiles old new → KeepsRefused command old new
 unfolding IsQuestion
 keeps_same (Loads load) old new h same = absurd h
-keeps_same (Counts dir query) old new h same = same
+keeps_same (Answers dir query tell) old new h same = same
+keeps_same (Estimates dir query) old new h same = same
 keeps_same (Builds dir text list) old new h same = absurd h
 keeps_same (Lists dir) old new h same = same
 keeps_same Unknown old new h same = same
@@ -162,7 +166,7 @@ untaken_read command left files before after status i none runs =
 pub usage_runs : (left : Option (List ℕ)) (files : Option Files) (before after : Option (List ℕ)) (status : Status)
     → Prints Usage (line_of Usage) before after status → Runs Unknown left files before after status
 usage_runs left files before after status prints =
-    Answers (refused Usage) refl (record { input = some_input left; told = some_told left; holds = λ w h. same_says (refused Usage) (refused Usage) refl }) refl prints
+    Replied (refused Usage) refl (record { input = some_input left; told = some_told left; holds = λ w h. same_says (refused Usage) (refused Usage) refl }) refl prints
 
 -- ---- the same in the words of the call
 
@@ -199,8 +203,7 @@ module _ (job : Option Job) (command : Command) (is : command_of job ≡ command
 
 -- what is asked of a dataset takes no input
 pub task_takes : (dir : List ℕ) (asked : Task) → takes_input (command_of_task dir asked) ≡ false
-task_takes dir (task.Answer query true) = refl
-task_takes dir (task.Answer query false) = refl
+task_takes dir (task.Answer query tell) = refl
 task_takes dir (task.Estimate query) = refl
 task_takes dir (task.Build spec columns) = refl
 task_takes dir task.Check = refl
@@ -210,9 +213,14 @@ pub unknown_leaves : (files : Option Files) (status : Status) → Leaves Unknown
 unfolding IsQuestion
 unknown_leaves files status = question_leaves Unknown files files status tt refl
 
-pub count_leaves : (dir query : List ℕ) (old new : Option Files) (status : Status) → SameFiles old new → Leaves (Counts dir query) old new status
+pub answer_leaves : (dir query : List ℕ) (tell : Bool) (old new : Option Files) (status : Status) → SameFiles old new
+    → Leaves (Answers dir query tell) old new status
 unfolding IsQuestion
-count_leaves dir query old new status same = question_leaves (Counts dir query) old new status tt same
+answer_leaves dir query tell old new status same = question_leaves (Answers dir query tell) old new status tt same
+
+pub estimate_leaves : (dir query : List ℕ) (old new : Option Files) (status : Status) → SameFiles old new → Leaves (Estimates dir query) old new status
+unfolding IsQuestion
+estimate_leaves dir query old new status same = question_leaves (Estimates dir query) old new status tt same
 
 pub list_leaves : (dir : List ℕ) (old new : Option Files) (status : Status) → SameFiles old new → Leaves (Lists dir) old new status
 unfolding IsQuestion

@@ -7,11 +7,12 @@ use Rattle.statuses.specs.declared.Status.{Status}
 use Rattle.statuses.specs.declared.Status.TheVariants.{Done, Usage, ReadFault, StoreFault, OutOfMemory}
 use Rattle.statuses.specs.Outcome.{Outcome, refused}
 use Rattle.ardea.specs.Load.{Gives, outcome_of}
-use Rattle.ibis.specs.Count.{CountComes, answer_of}
 use Rattle.ibis.specs.Listing.{ListComes, listed}
+use Rattle.ibis_answer.specs.Answer.{answer_text, between_line, told}
+use Rattle.ibis_answer.specs.Causes.{Comes}
 use Rattle.ibis_build.specs.Builds.{built_line}
 use Rattle.ibis_build.specs.Causes.{BuildComes}
-use Rattle.commands.specs.Command.{Command, Loads, Counts, Builds, Lists, Unknown}
+use Rattle.commands.specs.Command.{Command, Loads, Answers, Estimates, Builds, Lists, Unknown}
 use Rattle.commands.specs.Reply.{Replies, is_fault}
 
 -- what a load comes to: the definition's answer for some input and some files, which are those that source and store tell
@@ -20,11 +21,11 @@ pub record LoadComesTo (load : Load) (left : Option (List ℕ)) (files : Option 
   pub given : Gives load left files result
   pub is : reply ≡ outcome_of load result
 
--- a question, over the files that the store tells
-pub record CountComesTo (dir query : List ℕ) (files : Option Files) (reply : Outcome) : Type 0 where
-  pub result : Result ℕ Status
-  pub comes : CountComes dir query files result
-  pub is : reply ≡ answer_of result
+-- a question or an estimate, with this text of its numbers, over the files that the store tells
+pub record NumbersComeTo {A : Type 0} (text : A → List ℕ) (dir query : List ℕ) (files : Option Files) (reply : Outcome) : Type 0 where
+  pub result : Result A Status
+  pub comes : Comes dir query files result
+  pub is : reply ≡ told text result
 
 -- what is told of a request for indexes; what it does is said of the files
 abbrev pub told_of : Result ℕ Status → Outcome
@@ -46,7 +47,8 @@ pub record ListComesTo (dir : List ℕ) (files : Option Files) (reply : Outcome)
 -- what a command comes to over the input and the files, as far as source and store tell them
 abbrev pub ComesTo : Command → Option (List ℕ) → Option Files → Outcome → Type 0
 ComesTo (Loads load) left files reply = LoadComesTo load left files reply
-ComesTo (Counts dir query) left files reply = CountComesTo dir query files reply
+ComesTo (Answers dir query tell) left files reply = NumbersComeTo (answer_text tell) dir query files reply
+ComesTo (Estimates dir query) left files reply = NumbersComeTo between_line dir query files reply
 ComesTo (Builds dir text list) left files reply = BuildComesTo dir text list files reply
 ComesTo (Lists dir) left files reply = ListComesTo dir files reply
 ComesTo Unknown left files reply = reply ≡ refused Usage

@@ -9,7 +9,7 @@ use Rattle.statuses.specs.declared.Status.{Status}
 use Rattle.statuses.specs.declared.Status.TheVariants.{ReadFault}
 use Rattle.ibis_build.specs.Causes.{BuildKeeps}
 use Rattle.ibis_build.specs.Looks.{IsAskedName}
-use Rattle.commands.specs.Command.{Command, Loads, Counts, Builds, Lists, Unknown}
+use Rattle.commands.specs.Command.{Command, Loads, Answers, Estimates, Builds, Lists, Unknown}
 use Rattle.commands.specs.Reply.{is_fault}
 
 -- The files stand for the world after a front of the effects: after all of them but where the command ended with a fault,
@@ -32,7 +32,8 @@ pub record IsAskedIndex (dir : List ℕ) (list : Option (List ℕ)) (name : List
 -- a file that the command may change: one of the dataset that a load names, the index of a column that is asked for
 abbrev pub IsOfCommand : Command → List ℕ → Type 0
 IsOfCommand (Loads load) name = IsFileOf load.dir name
-IsOfCommand (Counts dir query) name = ⊥
+IsOfCommand (Answers dir query tell) name = ⊥
+IsOfCommand (Estimates dir query) name = ⊥
 IsOfCommand (Builds dir text list) name = IsAskedIndex dir list name
 IsOfCommand (Lists dir) name = ⊥
 IsOfCommand Unknown name = ⊥
@@ -40,7 +41,8 @@ IsOfCommand Unknown name = ⊥
 -- A refused command changes no file, but that a request for indexes which ends at one that is refused leaves those before it.
 abbrev pub KeepsRefused : Command → Option Files → Option Files → Type 0
 KeepsRefused (Loads load) old new = SameFiles old new
-KeepsRefused (Counts dir query) old new = SameFiles old new
+KeepsRefused (Answers dir query tell) old new = SameFiles old new
+KeepsRefused (Estimates dir query) old new = SameFiles old new
 KeepsRefused (Builds dir text list) old new = BuildKeeps dir text list old new
 KeepsRefused (Lists dir) old new = SameFiles old new
 KeepsRefused Unknown old new = SameFiles old new

@@ -46,7 +46,7 @@ IsReplyIn command left files reply =
 
 -- The command came to a reply, which was printed; or it stopped before it printed.
 pub data Runs (command : Command) (left : Option (List ℕ)) (files : Option Files) (before after : Option (List ℕ)) (status : Status) : Type 0 where
-  Answers : (reply : Outcome) → ComesTo command left files reply → IsReplyIn command left files reply
+  Replied : (reply : Outcome) → ComesTo command left files reply → IsReplyIn command left files reply
       → is_fault reply.status ≡ false → Prints reply.status reply.text before after status → Runs command left files before after status
   Unread : takes_input command ≡ true → after ≡ before → status ≡ ReadFault → Runs command left files before after status
   Unstored : ForSomeInput left (λ input. asks_store command input ≡ true) → after ≡ before → status ≡ StoreFault

@@ -17,7 +17,7 @@ ghost use Rattle.commands.specs.Command.{command_of, command_outcome};
 ghost use Rattle.commands.specs.Reply.{Replies, is_fault};
 ghost use Rattle.commands.specs.Effects.{IsOfCommand, KeepsRefused, LeavesAfter};
 ghost use Rattle.commands.specs.Causes.{ComesTo, HasCauseIn, Says};
-ghost use Rattle.commands.specs.Looks.{IsLookOf};
+ghost use Rattle.commands.specs.Looks.{IsLookOf, ReadsAllowed, TakesSteps};
 ghost use Rattle.commands.specs.Order.{Yields, takes_input};
 ghost use Rattle.commands.specs.Runs.{LoadRuns};
 ghost use Rattle.ardea.specs.Looks.{IsLoadLook};
@@ -61,8 +61,11 @@ pub fn run_command<I: Source, S: Store, K: Sink, L: Ledger>(
     ensures refused { is_fault result ≡ false → result ≢ Status.Done
         → KeepsRefused (command_of asked.now) (S.files store.old) (S.files store.new) }
 
-    // Each added read is of a file of that command, as it finds the files.
+    // Each added read is of a file of that command, as it finds the files. Where they stand for a world, a question and an
+    // estimate read what their clause needs, and take few steps.
     ensures reads { AddsOnly (IsLookOf (command_of asked.now) (S.files store.old)) (S.reads store.old) (S.reads store.new) }
+    ensures allowed { ReadsAllowed (command_of asked.now) (S.files store.old) (S.reads store.old) (S.reads store.new) result }
+    ensures steps { TakesSteps (command_of asked.now) (S.files store.old) steps.old steps.new }
 
     // Each status has its cause, and what it comes to is printed.
     ensures causes { HasCauseIn (ComesTo (command_of asked.now) (I.left input.old) (S.files store.old)) result }
@@ -102,6 +105,8 @@ fn run_job<I: Source, S: Store, K: Sink, L: Ledger>(
     ensures refused { is_fault result ≡ false → result ≢ Status.Done
         → KeepsRefused (command_of (Some job.now)) (S.files store.old) (S.files store.new) }
     ensures reads { AddsOnly (IsLookOf (command_of (Some job.now)) (S.files store.old)) (S.reads store.old) (S.reads store.new) }
+    ensures allowed { ReadsAllowed (command_of (Some job.now)) (S.files store.old) (S.reads store.old) (S.reads store.new) result }
+    ensures steps { TakesSteps (command_of (Some job.now)) (S.files store.old) steps.old steps.new }
     ensures causes { HasCauseIn (ComesTo (command_of (Some job.now)) (I.left input.old) (S.files store.old)) result }
     ensures prints { Says (ComesTo (command_of (Some job.now)) (I.left input.old) (S.files store.old)) result
         (K.written out.old) (K.written out.new) }

@@ -1,15 +1,17 @@
 //! What a command prints.
 
-ghost use Rattle.std.specs.Prelude.{◌≡◌, false, IfOk, string_bytes};
+ghost use Rattle.std.specs.Prelude.{◌≡◌, ◌++◌, false, IfOk, string_bytes};
 ghost use Rattle.fb_outside.specs.Causes.{HasCause};
 ghost use Rattle.statuses.specs.Lines.{line_of};
 ghost use Rattle.ardea.specs.Load.{loaded_line};
-ghost use Rattle.ibis.specs.Count.{hits_line};
+ghost use Rattle.ibis_answer.specs.Answer.{answer_text, between_line, checked_line, hits_line};
 ghost use Rattle.ibis_build.specs.Builds.{built_line};
 ghost use Rattle.commands.specs.Reply.{is_fault};
 ghost use Rattle.commands.specs.Runs.{Prints};
 
 use fb_outside::{Sink, Trouble};
+use ibis_answer::Counted;
+use stages::Bounds;
 use statuses::Status;
 use std::alloc::{AllocError, Global};
 
@@ -43,22 +45,62 @@ fn loaded_text(alloc: Global, rows: u64) -> Result<String, AllocError>
     format!(in alloc; "loaded {rows} rows\n")
 }
 
-/// Prints how many records there are that a clause holds on.
-pub(crate) fn print_hits<K: Sink>(alloc: Global, out: &mut K, hits: u64) -> Status
+/// Prints how many records were asked for, and how many were checked where it is to be told.
+pub(crate) fn print_counted<K: Sink>(
+    alloc: Global,
+    out: &mut K,
+    counted: Counted,
+    tell: bool,
+) -> Status
     ensures cause { HasCause (K.faults out.old) (K.faults out.new) (result ≡ Status.SinkFault) }
-    ensures prints { Prints Status.Done (hits_line hits) (K.written out.old) (K.written out.new) result }
+    ensures prints { Prints Status.Done (answer_text tell counted) (K.written out.old) (K.written out.new) result }
 {
-    match hits_text(alloc, hits) {
+    match counted_text(alloc, counted, tell) {
+        Ok(text) => print_text(out, text.as_bytes(), Status::Done),
+        Err(_) => Status::OutOfMemory,
+    }
+}
+
+fn counted_text(alloc: Global, counted: Counted, tell: bool) -> Result<String, AllocError>
+    ensures { IfOk result (λ text. string_bytes text ≡ answer_text tell counted) }
+{
+    if tell {
+        checked_text(alloc, counted.hits, counted.checked)
+    } else {
+        hits_text(alloc, counted.hits)
+    }
+}
+
+#[tactic(auto, unfolding(ibis_answer::specs::Answer::hits_line))]
+fn hits_text(alloc: Global, hits: u64) -> Result<String, AllocError>
+    ensures { IfOk result (λ line. string_bytes line ≡ hits_line hits) }
+{
+    format!(in alloc; "hits {hits}\n")
+}
+
+#[tactic(auto, unfolding(ibis_answer::specs::Answer::hits_line, ibis_answer::specs::Answer::checked_line))]
+fn checked_text(alloc: Global, hits: u64, checked: u64) -> Result<String, AllocError>
+    ensures { IfOk result (λ text. string_bytes text ≡ hits_line hits ++ checked_line checked) }
+{
+    format!(in alloc; "hits {hits}\nchecked {checked}\n")
+}
+
+/// Prints between which two numbers the records are that were asked for.
+pub(crate) fn print_bounds<K: Sink>(alloc: Global, out: &mut K, bounds: Bounds) -> Status
+    ensures cause { HasCause (K.faults out.old) (K.faults out.new) (result ≡ Status.SinkFault) }
+    ensures prints { Prints Status.Done (between_line bounds) (K.written out.old) (K.written out.new) result }
+{
+    match between_text(alloc, bounds.definite, bounds.possible) {
         Ok(line) => print_text(out, line.as_bytes(), Status::Done),
         Err(_) => Status::OutOfMemory,
     }
 }
 
-#[tactic(auto, unfolding(ibis::specs::Count::hits_line))]
-fn hits_text(alloc: Global, hits: u64) -> Result<String, AllocError>
-    ensures { IfOk result (λ line. string_bytes line ≡ hits_line hits) }
+#[tactic(auto, unfolding(ibis_answer::specs::Answer::between_line))]
+fn between_text(alloc: Global, definite: u64, possible: u64) -> Result<String, AllocError>
+    ensures { IfOk result (λ line. string_bytes line ≡ between_line (record { definite = definite; possible = possible })) }
 {
-    format!(in alloc; "hits {hits}\n")
+    format!(in alloc; "between {definite} and {possible}\n")
 }
 
 /// Prints how many indexes were built.

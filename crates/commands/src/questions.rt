@@ -6,17 +6,19 @@ ghost use Rattle.fb_outside.specs.Files.{SameFiles};
 ghost use Rattle.fb_outside.specs.Names.{IsPath};
 ghost use Rattle.fb_outside.specs.Reads.{AddsOnly};
 ghost use Rattle.command_words.specs.Valid.{IsValidTask};
-ghost use Rattle.ibis.specs.Looks.{IsCountLook, IsListLook};
+ghost use Rattle.ibis.specs.Looks.{IsListLook};
+ghost use Rattle.ibis_answer.specs.Looks.{IsAnswerLook};
 ghost use Rattle.ibis_build.specs.Looks.{IsBuildLook};
-ghost use Rattle.commands.specs.Command.{Counts, Lists, command_of_task};
-ghost use Rattle.commands.specs.Looks.{IsLookOf};
+ghost use Rattle.commands.specs.Command.{Answers, Estimates, Lists, command_of_task};
+ghost use Rattle.commands.specs.Looks.{IsLookOf, ReadsAllowed, TakesSteps};
 ghost use Rattle.commands.specs.Runs.{BuildRuns, Leaves, Runs};
 
-use crate::printing::{print_built, print_hits, print_text, refuse};
+use crate::printing::{print_bounds, print_built, print_counted, print_text, refuse};
 use command_words::Task;
 use fb_outside::{FileName, Sink, Store};
 use fb_types::Label;
-use ibis::{count, list};
+use ibis::list;
+use ibis_answer::{answer, estimate};
 use ibis_build::build_indexes;
 use statuses::{Status, Unanswered};
 use std::alloc::Global;
@@ -38,21 +40,52 @@ pub(crate) fn run_task<S: Store, K: Sink, L: Ledger>(
         (K.written out.old) (K.written out.new) result }
     ensures leaves { Leaves (command_of_task dir.now task.now) (S.files store.old) (S.files store.new) result }
     ensures reads { AddsOnly (IsLookOf (command_of_task dir.now task.now) (S.files store.old)) (S.reads store.old) (S.reads store.new) }
+    ensures allowed { ReadsAllowed (command_of_task dir.now task.now) (S.files store.old) (S.reads store.old) (S.reads store.new) result }
+    ensures steps { TakesSteps (command_of_task dir.now task.now) (S.files store.old) steps.old steps.new }
     ensures store_cause { HasCause (S.faults store.old) (S.faults store.new) (result ≡ Status.StoreFault) }
     ensures print_cause { HasCause (K.faults out.old) (K.faults out.new) (result ≡ Status.SinkFault) }
 {
     match task {
-        Task::Answer { query, tell: false } => run_count(alloc, dir, query, store, out, steps),
+        Task::Answer { query, tell } => run_answer(alloc, dir, query, *tell, store, out, steps),
+        Task::Estimate { query } => run_estimate(alloc, dir, query, store, out, steps),
         Task::Build { spec, columns } => run_build(alloc, dir, spec, columns, store, out, steps),
         Task::List => run_list(alloc, dir, store, out),
-        Task::Answer { tell: true, .. } => refuse(alloc, out, Status::Usage),
-        Task::Estimate { .. } => refuse(alloc, out, Status::Usage),
         Task::Check => refuse(alloc, out, Status::Usage),
     }
 }
 
-/// Counts the records that a query's clause holds on, and prints the count.
-fn run_count<S: Store, K: Sink, L: Ledger>(
+/// Prints how many records a query asks for, and, where it is to be told, how many pairs of a condition and a record were
+/// checked by values.
+fn run_answer<S: Store, K: Sink, L: Ledger>(
+    alloc: Global,
+    dir: &FileName,
+    query: &Label,
+    tell: bool,
+    store: &mut S,
+    out: &mut K,
+    steps: &mut Steps<L>,
+) -> Status
+    requires path { IsPath dir.now }
+    requires text { IsUtf8 query.now }
+    ensures runs { (left : Option (List ℕ)) → Runs (Answers dir.now query.now tell) left (S.files store.old)
+        (K.written out.old) (K.written out.new) result }
+    ensures files { SameFiles (S.files store.old) (S.files store.new) }
+    ensures reads { AddsOnly (IsAnswerLook dir.now query.now) (S.reads store.old) (S.reads store.new) }
+    ensures allowed { ReadsAllowed (Answers dir.now query.now tell) (S.files store.old) (S.reads store.old) (S.reads store.new) result }
+    ensures steps { TakesSteps (Answers dir.now query.now tell) (S.files store.old) steps.old steps.new }
+    ensures store_cause { HasCause (S.faults store.old) (S.faults store.new) (result ≡ Status.StoreFault) }
+    ensures print_cause { HasCause (K.faults out.old) (K.faults out.new) (result ≡ Status.SinkFault) }
+{
+    match answer(alloc, dir, query, store, steps) {
+        Ok(counted) => print_counted(alloc, out, counted, tell),
+        Err(Unanswered::Refused(status)) => refuse(alloc, out, status),
+        Err(Unanswered::StoreFault) => Status::StoreFault,
+        Err(Unanswered::OutOfMemory) => Status::OutOfMemory,
+    }
+}
+
+/// Prints between how many records and how many a query asks for, as far as the bins of its columns decide it.
+fn run_estimate<S: Store, K: Sink, L: Ledger>(
     alloc: Global,
     dir: &FileName,
     query: &Label,
@@ -62,15 +95,17 @@ fn run_count<S: Store, K: Sink, L: Ledger>(
 ) -> Status
     requires path { IsPath dir.now }
     requires text { IsUtf8 query.now }
-    ensures runs { (left : Option (List ℕ)) → Runs (Counts dir.now query.now) left (S.files store.old)
+    ensures runs { (left : Option (List ℕ)) → Runs (Estimates dir.now query.now) left (S.files store.old)
         (K.written out.old) (K.written out.new) result }
     ensures files { SameFiles (S.files store.old) (S.files store.new) }
-    ensures reads { AddsOnly (IsCountLook dir.now query.now) (S.reads store.old) (S.reads store.new) }
+    ensures reads { AddsOnly (IsAnswerLook dir.now query.now) (S.reads store.old) (S.reads store.new) }
+    ensures allowed { ReadsAllowed (Estimates dir.now query.now) (S.files store.old) (S.reads store.old) (S.reads store.new) result }
+    ensures steps { TakesSteps (Estimates dir.now query.now) (S.files store.old) steps.old steps.new }
     ensures store_cause { HasCause (S.faults store.old) (S.faults store.new) (result ≡ Status.StoreFault) }
     ensures print_cause { HasCause (K.faults out.old) (K.faults out.new) (result ≡ Status.SinkFault) }
 {
-    match count(alloc, dir, query, store, steps) {
-        Ok(hits) => print_hits(alloc, out, hits),
+    match estimate(alloc, dir, query, store, steps) {
+        Ok(bounds) => print_bounds(alloc, out, bounds),
         Err(Unanswered::Refused(status)) => refuse(alloc, out, status),
         Err(Unanswered::StoreFault) => Status::StoreFault,
         Err(Unanswered::OutOfMemory) => Status::OutOfMemory,

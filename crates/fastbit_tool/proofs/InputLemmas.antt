@@ -24,8 +24,7 @@ takes_none (Some name) good h = refl
 pub allowed_takes : (asked : Option Job) → in_session asked ≡ asked → takes_input (command_of asked) ≡ false
 allowed_takes None h = refl
 allowed_takes (Some (Ardea load)) h = takes_none load.file _ (named load.file load h)
-allowed_takes (Some (Ibis dir (task.Answer query false))) h = refl
-allowed_takes (Some (Ibis dir (task.Answer query true))) h = refl
+allowed_takes (Some (Ibis dir (task.Answer query tell))) h = refl
 allowed_takes (Some (Ibis dir (task.Estimate query))) h = refl
 allowed_takes (Some (Ibis dir (task.Build spec columns))) h = refl
 allowed_takes (Some (Ibis dir task.Check)) h = refl
@@ -51,8 +50,7 @@ pub input_free : (asked : Option Job) → in_session asked ≡ asked → (a b : 
     → command_outcome (command_of asked) a w ≡ command_outcome (command_of asked) b w
 input_free None h a b w = refl
 input_free (Some (Ardea load)) h a b w = outcome_free load a b w (named load.file load h)
-input_free (Some (Ibis dir (task.Answer query false))) h a b w = refl
-input_free (Some (Ibis dir (task.Answer query true))) h a b w = refl
+input_free (Some (Ibis dir (task.Answer query tell))) h a b w = refl
 input_free (Some (Ibis dir (task.Estimate query))) h a b w = refl
 input_free (Some (Ibis dir (task.Build spec columns))) h a b w = refl
 input_free (Some (Ibis dir task.Check)) h a b w = refl

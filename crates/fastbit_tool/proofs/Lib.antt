@@ -5,4 +5,3 @@ pub mod LinesLemmas
 pub mod RequestLemmas
 pub mod RunLinesLemmas
 pub mod SessionLemmas
-pub mod LookLemmas

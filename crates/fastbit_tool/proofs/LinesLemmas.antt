@@ -16,7 +16,7 @@ use Rattle.commands.specs.Command.{Command}
 use Rattle.commands.specs.Effects.{IsOfCommand, LeavesAfter}
 use Rattle.commands.specs.Reply.{Replies, RepliesBy, is_fault}
 use Rattle.commands.proofs.PrintLemmas.{Replies-fault, Replies-quiet}
-use Rattle.fastbit_tool.specs.Session.{GoesOn, LineRuns, LineRunsBy, LinesRun, Skips, Stops, followed_by, line_command, line_outcome, lines_outcome, nothing, outcome_by}
+use Rattle.fastbit_tool.specs.Session.{GoesOn, LineRuns, LineRunsBy, LinesRun, Outside, Skips, Stops, followed_by, line_command, line_outcome, lines_outcome, nothing, outcome_by}
 use Rattle.fastbit_tool.specs.Requests.{IsOfLineBy, IsOfLines}
 
 -- ---- replies
@@ -111,38 +111,38 @@ leaves_behind es more w status new unread h =
 
 -- ---- one line
 
-skip_reply : (old new : Option Files) (before now : Option (List ℕ)) (status : Status) → now ≡ before → (status ≡ Done) ⊎ (status ≡ OutOfMemory)
-    → Replies nothing status before now
-skip_reply old new before now status same (inl is) = Replies-nothing before now status same is
-skip_reply old new before now status same (inr is) = Replies-quiet nothing status before now (ap is_fault is) same
+skip_reply : (before now : Option (List ℕ)) (status : Status) → now ≡ before → (status ≡ Done) ⊎ (status ≡ OutOfMemory) → Replies nothing status before now
+skip_reply before now status same (inl is) = Replies-nothing before now status same is
+skip_reply before now status same (inr is) = Replies-quiet nothing status before now (ap is_fault is) same
 
 skip_unread : (status : Status) → (status ≡ Done) ⊎ (status ≡ OutOfMemory) → status ≢ ReadFault
 skip_unread status (inl is) e = let bad : Done ≡ ReadFault = sym is ∙ e in cc
 skip_unread status (inr is) e = let bad : OutOfMemory ≡ ReadFault = sym is ∙ e in cc
 
-module _ (left : Option (List ℕ)) (old new : Option Files) (before now : Option (List ℕ)) (status : Status) where
-  replies_by : (command : Option Command) → LineRunsBy command left old new before now status → (w : World) → StandsFor old w
-      → Replies (outcome_by command w) status before now
-  replies_by None h w stands = skip_reply old new before now status h.written h.ends
+pub same_files : (old new : Outside) → new ≡ old → SameFiles old.files new.files
+same_files old new same = ap (λ (o : Outside). o.files) same
+
+pub same_written : (old new : Outside) → new ≡ old → new.written ≡ old.written
+same_written old new same = ap (λ (o : Outside). o.written) same
+
+module _ (left : Option (List ℕ)) (old new : Outside) (status : Status) where
+  replies_by : (command : Option Command) → LineRunsBy command left old new status → (w : World) → StandsFor old.files w
+      → Replies (outcome_by command w) status old.written new.written
+  replies_by None h w stands = skip_reply old.written new.written status (same_written old new h.same) h.ends
   replies_by (Some command) h w stands = h.replies w stands
 
-  leaves_by : (command : Option Command) → LineRunsBy command left old new before now status → (w : World) → StandsFor old w
-      → LeavesAfter (outcome_by command w).effects w status new
-  leaves_by None h w stands = leaves_nothing w status old new stands h.files
+  leaves_by : (command : Option Command) → LineRunsBy command left old new status → (w : World) → StandsFor old.files w
+      → LeavesAfter (outcome_by command w).effects w status new.files
+  leaves_by None h w stands = leaves_nothing w status old.files new.files stands (same_files old new h.same)
   leaves_by (Some command) h w stands = h.leaves w stands
 
-  keeps_by : (command : Option Command) → LineRunsBy command left old new before now status → ChangesAmong (IsOfLineBy command) old new
-  keeps_by None h = ChangesAmong-same old new h.files
+  keeps_by : (command : Option Command) → LineRunsBy command left old new status → ChangesAmong (IsOfLineBy command) old.files new.files
+  keeps_by None h = ChangesAmong-same old.files new.files (same_files old new h.same)
   keeps_by (Some command) h = h.kept
 
-  unread_by : (command : Option Command) → LineRunsBy command left old new before now status → status ≢ ReadFault
+  unread_by : (command : Option Command) → LineRunsBy command left old new status → status ≢ ReadFault
   unread_by None h = skip_unread status h.ends
   unread_by (Some command) h = h.unread
-
--- only files of its command change
-pub line_keeps : (line : List ℕ) (left : Option (List ℕ)) (old new : Option Files) (before now : Option (List ℕ)) (status : Status)
-    → LineRuns line left old new before now status → ChangesAmong (IsOfLineBy (line_command line)) old new
-line_keeps line left old new before now status runs = keeps_by left old new before now status (line_command line) runs
 
 -- ---- all lines
 
@@ -150,54 +150,53 @@ lines_done : (lines : List (List ℕ)) (w : World) → (lines_outcome lines w).s
 lines_done [] w = refl
 lines_done (line ∷ lines) w = refl
 
-pub lines_reply : (lines : List (List ℕ)) (left : Option (List ℕ)) (old new : Option Files) (before now : Option (List ℕ)) (status : Status)
-    → LinesRun lines left old new before now status → (w : World) → StandsFor old w → Replies (lines_outcome lines w) status before now
-lines_reply [] left old new before now status h w stands = Replies-nothing before now status h.1 h.2
-lines_reply (line ∷ lines) left old new before now status (inl stops) w stands =
-    Replies-stopped (line_outcome line w) (lines_outcome lines (after w (line_outcome line w).effects)) status before now stops.fault
-    (replies_by left old new before now status (line_command line) stops.runs w stands)
-lines_reply (line ∷ lines) left old new before now status (inr goes) w stands =
-    let full = in_full (line_outcome line w) goes.status before goes.written goes.fine
-    (replies_by left old goes.files before goes.written goes.status (line_command line) goes.runs w stands) in
-    let leaves = leaves_by left old goes.files before goes.written goes.status (line_command line) goes.runs w stands in
-    let there = stands_after (line_outcome line w).effects w goes.status goes.files goes.fine leaves in
-    Replies-behind (line_outcome line w) (lines_outcome lines (after w (line_outcome line w).effects)) status before goes.written now
+pub lines_reply : (lines : List (List ℕ)) (left : Option (List ℕ)) (old new : Outside) (status : Status)
+    → LinesRun lines left old new status → (w : World) → StandsFor old.files w → Replies (lines_outcome lines w) status old.written new.written
+lines_reply [] left old new status h w stands = Replies-nothing old.written new.written status (same_written old new h.0) h.1
+lines_reply (line ∷ lines) left old new status (inl stops) w stands =
+    Replies-stopped (line_outcome line w) (lines_outcome lines (after w (line_outcome line w).effects)) status old.written new.written stops.fault
+    (replies_by left old new status (line_command line) stops.runs w stands)
+lines_reply (line ∷ lines) left old new status (inr goes) w stands =
+    let full = in_full (line_outcome line w) goes.status old.written goes.between.written goes.fine
+    (replies_by left old goes.between goes.status (line_command line) goes.runs w stands) in
+    let leaves = leaves_by left old goes.between goes.status (line_command line) goes.runs w stands in
+    let there = stands_after (line_outcome line w).effects w goes.status goes.between.files goes.fine leaves in
+    Replies-behind (line_outcome line w) (lines_outcome lines (after w (line_outcome line w).effects)) status old.written goes.between.written new.written
     full.1 (lines_done lines (after w (line_outcome line w).effects))
-    (lines_reply lines left goes.files new goes.written now status goes.rest (after w (line_outcome line w).effects) there)
+    (lines_reply lines left goes.between new status goes.rest (after w (line_outcome line w).effects) there)
 
-pub lines_unread : (lines : List (List ℕ)) (left : Option (List ℕ)) (old new : Option Files) (before now : Option (List ℕ)) (status : Status)
-    → LinesRun lines left old new before now status → status ≢ ReadFault
-lines_unread [] left old new before now status h e = let bad : Done ≡ ReadFault = sym h.2 ∙ e in cc
-lines_unread (line ∷ lines) left old new before now status (inl stops) e = unread_by left old new before now status (line_command line) stops.runs e
-lines_unread (line ∷ lines) left old new before now status (inr goes) e = lines_unread lines left goes.files new goes.written now status goes.rest e
+pub lines_unread : (lines : List (List ℕ)) (left : Option (List ℕ)) (old new : Outside) (status : Status) → LinesRun lines left old new status → status ≢ ReadFault
+lines_unread [] left old new status h e = let bad : Done ≡ ReadFault = sym h.1 ∙ e in cc
+lines_unread (line ∷ lines) left old new status (inl stops) e = unread_by left old new status (line_command line) stops.runs e
+lines_unread (line ∷ lines) left old new status (inr goes) e = lines_unread lines left goes.between new status goes.rest e
 
-pub lines_leave : (lines : List (List ℕ)) (left : Option (List ℕ)) (old new : Option Files) (before now : Option (List ℕ)) (status : Status)
-    → LinesRun lines left old new before now status → (w : World) → StandsFor old w → LeavesAfter (lines_outcome lines w).effects w status new
-lines_leave [] left old new before now status h w stands = leaves_nothing w status old new stands h.0
-lines_leave (line ∷ lines) left old new before now status (inl stops) w stands =
-    leaves_stopped (line_outcome line w).effects (lines_outcome lines (after w (line_outcome line w).effects)).effects w status new stops.fault
-    (unread_by left old new before now status (line_command line) stops.runs)
-    (leaves_by left old new before now status (line_command line) stops.runs w stands)
-lines_leave (line ∷ lines) left old new before now status (inr goes) w stands =
-    let leaves = leaves_by left old goes.files before goes.written goes.status (line_command line) goes.runs w stands in
-    let there = stands_after (line_outcome line w).effects w goes.status goes.files goes.fine leaves in
-    leaves_behind (line_outcome line w).effects (lines_outcome lines (after w (line_outcome line w).effects)).effects w status new
-    (lines_unread lines left goes.files new goes.written now status goes.rest)
-    (lines_leave lines left goes.files new goes.written now status goes.rest (after w (line_outcome line w).effects) there)
+pub lines_leave : (lines : List (List ℕ)) (left : Option (List ℕ)) (old new : Outside) (status : Status)
+    → LinesRun lines left old new status → (w : World) → StandsFor old.files w → LeavesAfter (lines_outcome lines w).effects w status new.files
+lines_leave [] left old new status h w stands = leaves_nothing w status old.files new.files stands (same_files old new h.0)
+lines_leave (line ∷ lines) left old new status (inl stops) w stands =
+    leaves_stopped (line_outcome line w).effects (lines_outcome lines (after w (line_outcome line w).effects)).effects w status new.files stops.fault
+    (unread_by left old new status (line_command line) stops.runs)
+    (leaves_by left old new status (line_command line) stops.runs w stands)
+lines_leave (line ∷ lines) left old new status (inr goes) w stands =
+    let leaves = leaves_by left old goes.between goes.status (line_command line) goes.runs w stands in
+    let there = stands_after (line_outcome line w).effects w goes.status goes.between.files goes.fine leaves in
+    leaves_behind (line_outcome line w).effects (lines_outcome lines (after w (line_outcome line w).effects)).effects w status new.files
+    (lines_unread lines left goes.between new status goes.rest)
+    (lines_leave lines left goes.between new status goes.rest (after w (line_outcome line w).effects) there)
 
-pub lines_keep : (lines : List (List ℕ)) (left : Option (List ℕ)) (old new : Option Files) (before now : Option (List ℕ)) (status : Status)
-    → LinesRun lines left old new before now status → ChangesAmong (IsOfLines lines) old new
-lines_keep [] left old new before now status h = ChangesAmong-same old new h.0
-lines_keep (line ∷ lines) left old new before now status (inl stops) =
-    ChangesAmong-weaken old new (λ q of. inl of) (keeps_by left old new before now status (line_command line) stops.runs)
-lines_keep (line ∷ lines) left old new before now status (inr goes) =
-    ChangesAmong-trans old goes.files new
-    (ChangesAmong-weaken old goes.files (λ q of. inl of) (keeps_by left old goes.files before goes.written goes.status (line_command line) goes.runs))
-    (ChangesAmong-weaken goes.files new (λ q of. inr of) (lines_keep lines left goes.files new goes.written now status goes.rest))
+pub lines_keep : (lines : List (List ℕ)) (left : Option (List ℕ)) (old new : Outside) (status : Status)
+    → LinesRun lines left old new status → ChangesAmong (IsOfLines lines) old.files new.files
+lines_keep [] left old new status h = ChangesAmong-same old.files new.files (same_files old new h.0)
+lines_keep (line ∷ lines) left old new status (inl stops) =
+    ChangesAmong-weaken old.files new.files (λ q of. inl of) (keeps_by left old new status (line_command line) stops.runs)
+lines_keep (line ∷ lines) left old new status (inr goes) =
+    ChangesAmong-trans old.files goes.between.files new.files
+    (ChangesAmong-weaken old.files goes.between.files (λ q of. inl of) (keeps_by left old goes.between goes.status (line_command line) goes.runs))
+    (ChangesAmong-weaken goes.between.files new.files (λ q of. inr of) (lines_keep lines left goes.between new status goes.rest))
 
 -- lines that ran without a fault are done
-pub lines_end : (lines : List (List ℕ)) (left : Option (List ℕ)) (old new : Option Files) (before now : Option (List ℕ)) (status : Status)
-    → LinesRun lines left old new before now status → is_fault status ≡ false → status ≡ Done
-lines_end [] left old new before now status h plain = h.2
-lines_end (line ∷ lines) left old new before now status (inl stops) plain = let bad : true ≡ false = sym stops.fault ∙ plain in absurd (cc)
-lines_end (line ∷ lines) left old new before now status (inr goes) plain = lines_end lines left goes.files new goes.written now status goes.rest plain
+pub lines_end : (lines : List (List ℕ)) (left : Option (List ℕ)) (old new : Outside) (status : Status)
+    → LinesRun lines left old new status → is_fault status ≡ false → status ≡ Done
+lines_end [] left old new status h plain = h.1
+lines_end (line ∷ lines) left old new status (inl stops) plain = let bad : true ≡ false = sym stops.fault ∙ plain in absurd (cc)
+lines_end (line ∷ lines) left old new status (inr goes) plain = lines_end lines left goes.between new status goes.rest plain

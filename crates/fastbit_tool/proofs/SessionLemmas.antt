@@ -20,9 +20,9 @@ use Rattle.commands.specs.Reply.{Replies, RepliesBy, is_fault}
 use Rattle.commands.specs.Runs.{Prints}
 use Rattle.commands.proofs.PrintLemmas.{Replies-quiet, says_printed, some_input, some_told}
 use Rattle.ardea.proofs.AnswerLemmas.{all_taken, came_short}
-use Rattle.fastbit_tool.specs.Requests.{IsOfAsked, OfSession, Refuses, Runs, SessionComesBy, SessionComesTo, SessionRuns, Unread}
-use Rattle.fastbit_tool.specs.Session.{LinesRun, is_long, lines_of, lines_outcome, most_session_bytes, nothing, session_outcome, too_long}
-use Rattle.fastbit_tool.proofs.LinesLemmas.{in_full, leaves_nothing, lines_end, lines_keep, lines_leave, lines_reply}
+use Rattle.fastbit_tool.specs.Requests.{IsOfAsked, OfSession, OnlyPrints, Refuses, Runs, SessionComesBy, SessionComesTo, SessionRuns, Unread}
+use Rattle.fastbit_tool.specs.Session.{LinesRun, Outside, is_long, lines_of, lines_outcome, most_session_bytes, nothing, session_outcome, too_long}
+use Rattle.fastbit_tool.proofs.LinesLemmas.{in_full, leaves_nothing, lines_end, lines_keep, lines_leave, lines_reply, same_files, same_written}
 
 -- a silent end is a fault
 silent_fault : (status : Status) → is_silent status ≡ true → is_fault status ≡ true
@@ -74,32 +74,32 @@ refused_outcome input w long = rw long refl
 run_outcome : (input : List ℕ) (w : World) → is_long input ≡ false → session_outcome input w ≡ lines_outcome (lines_of input) w
 run_outcome input w short = rw short refl
 
-module _ (left : Option (List ℕ)) (old new : Option Files) (before now : Option (List ℕ)) (status : Status) where
-  pub session_replies : SessionRuns left old new before now status
-      → ForSomeInput left (λ bytes. (w : World) → StandsFor old w → Replies (session_outcome bytes w) status before now)
-  session_replies (Refuses long same says) =
+module _ (left now : Option (List ℕ)) (old new : Outside) (status : Status) where
+  pub session_replies : SessionRuns left now old new status
+      → ForSomeInput left (λ bytes. (w : World) → StandsFor old.files w → Replies (session_outcome bytes w) status old.written new.written)
+  session_replies (Refuses long only says) =
       record {
         input = long.input;
         told = long.told;
         holds = λ w stands.
-            subst (λ (o : Outcome). Replies o status before now) (sym (refused_outcome long.input w long.holds)) (replied (refused too_long) status before now says);
+            subst (λ (o : Outcome). Replies o status old.written new.written) (sym (refused_outcome long.input w long.holds)) (replied (refused too_long) status old.written new.written says);
       }
-  session_replies (Unread same written is) =
+  session_replies (Unread same is) =
       record {
         input = some_input left;
         told = some_told left;
-        holds = λ w stands. Replies-quiet (session_outcome (some_input left) w) status before now (read_fault status is) written;
+        holds = λ w stands. Replies-quiet (session_outcome (some_input left) w) status old.written new.written (read_fault status is) (same_written old new same);
       }
-  session_replies (Runs end at_end lines) =
+  session_replies (Runs at_end lines) =
       record {
         input = lines.input;
         told = lines.told;
         holds = λ w stands.
-            subst (λ (o : Outcome). Replies o status before now) (sym (run_outcome lines.input w lines.holds.0))
-            (lines_reply (lines_of lines.input) end old new before now status lines.holds.1 w stands);
+            subst (λ (o : Outcome). Replies o status old.written new.written) (sym (run_outcome lines.input w lines.holds.0))
+            (lines_reply (lines_of lines.input) now old new status lines.holds.1 w stands);
       }
 
-  same_leaves : (effects : List Effect) (w : World) → SameFiles old new → StandsFor old w → is_fault status ≡ true → LeavesAfter effects w status new
+  same_leaves : (effects : List Effect) (w : World) → SameFiles old.files new.files → StandsFor old.files w → is_fault status ≡ true → LeavesAfter effects w status new.files
   same_leaves effects w same stands fault =
       record {
         count = 0;
@@ -109,41 +109,41 @@ module _ (left : Option (List ℕ)) (old new : Option Files) (before now : Optio
         none = λ e. refl;
       }
 
-  pub session_leaves : SessionRuns left old new before now status
-      → ForSomeInput left (λ bytes. (w : World) → StandsFor old w → LeavesAfter (session_outcome bytes w).effects w status new)
-  session_leaves (Refuses long same says) =
+  pub session_leaves : SessionRuns left now old new status
+      → ForSomeInput left (λ bytes. (w : World) → StandsFor old.files w → LeavesAfter (session_outcome bytes w).effects w status new.files)
+  session_leaves (Refuses long only says) =
       record {
         input = long.input;
         told = long.told;
         holds = λ w stands.
-            subst (λ (o : Outcome). LeavesAfter o.effects w status new) (sym (refused_outcome long.input w long.holds)) (leaves_nothing w status old new stands same);
+            subst (λ (o : Outcome). LeavesAfter o.effects w status new.files) (sym (refused_outcome long.input w long.holds)) (leaves_nothing w status old.files new.files stands only.files);
       }
-  session_leaves (Unread same written is) =
+  session_leaves (Unread same is) =
       record {
         input = some_input left;
         told = some_told left;
-        holds = λ w stands. same_leaves (session_outcome (some_input left) w).effects w same stands (read_fault status is);
+        holds = λ w stands. same_leaves (session_outcome (some_input left) w).effects w (same_files old new same) stands (read_fault status is);
       }
-  session_leaves (Runs end at_end lines) =
+  session_leaves (Runs at_end lines) =
       record {
         input = lines.input;
         told = lines.told;
         holds = λ w stands.
-            subst (λ (o : Outcome). LeavesAfter o.effects w status new) (sym (run_outcome lines.input w lines.holds.0))
-            (lines_leave (lines_of lines.input) end old new before now status lines.holds.1 w stands);
+            subst (λ (o : Outcome). LeavesAfter o.effects w status new.files) (sym (run_outcome lines.input w lines.holds.0))
+            (lines_leave (lines_of lines.input) now old new status lines.holds.1 w stands);
       }
 
-  pub session_keeps : SessionRuns left old new before now status → ForSomeInput left (λ bytes. ChangesAmong (IsOfAsked OfSession bytes) old new)
-  session_keeps (Refuses long same says) = record { input = long.input; told = long.told; holds = ChangesAmong-same old new same }
-  session_keeps (Unread same written is) = record { input = some_input left; told = some_told left; holds = ChangesAmong-same old new same }
-  session_keeps (Runs end at_end lines) =
-      record { input = lines.input; told = lines.told; holds = lines_keep (lines_of lines.input) end old new before now status lines.holds.1 }
+  pub session_keeps : SessionRuns left now old new status → ForSomeInput left (λ bytes. ChangesAmong (IsOfAsked OfSession bytes) old.files new.files)
+  session_keeps (Refuses long only says) = record { input = long.input; told = long.told; holds = ChangesAmong-same old.files new.files only.files }
+  session_keeps (Unread same is) = record { input = some_input left; told = some_told left; holds = ChangesAmong-same old.files new.files (same_files old new same) }
+  session_keeps (Runs at_end lines) =
+      record { input = lines.input; told = lines.told; holds = lines_keep (lines_of lines.input) now old new status lines.holds.1 }
 
-  pub session_refused : SessionRuns left old new before now status → is_fault status ≡ false → status ≢ Done → SameFiles old new
-  session_refused (Refuses long same says) plain other = same
-  session_refused (Unread same written is) plain other = same
-  session_refused (Runs end at_end lines) plain other =
-      absurd (other (lines_end (lines_of lines.input) end old new before now status lines.holds.1 plain))
+  pub session_refused : SessionRuns left now old new status → is_fault status ≡ false → status ≢ Done → SameFiles old.files new.files
+  session_refused (Refuses long only says) plain other = only.files
+  session_refused (Unread same is) plain other = same_files old new same
+  session_refused (Runs at_end lines) plain other =
+      absurd (other (lines_end (lines_of lines.input) now old new status lines.holds.1 plain))
 
   refused_cause : (long : ForSomeInput left (λ input. is_long input ≡ true)) → (is_fault status ≡ true) ⊎ (status ≡ too_long)
       → HasCauseIn (SessionComesTo left) status
@@ -166,27 +166,35 @@ module _ (left : Option (List ℕ)) (old new : Option Files) (before now : Optio
         is = is;
       })
 
-  done_or : (end : Option (List ℕ)) (lines : List (List ℕ)) → LinesRun lines end old new before now status
+  done_or : (lines : List (List ℕ)) → LinesRun lines now old new status
       → (is_fault status ≡ true) ⊎ (is_fault status ≡ false) → (is_fault status ≡ true) ⊎ (status ≡ Done)
-  done_or end lines run (inl fault) = inl fault
-  done_or end lines run (inr plain) = inr (lines_end lines end old new before now status run plain)
+  done_or lines run (inl fault) = inl fault
+  done_or lines run (inr plain) = inr (lines_end lines now old new status run plain)
 
-  pub session_cause : SessionRuns left old new before now status → HasCauseIn (SessionComesTo left) status
-  session_cause (Refuses long same says) =
-      refused_cause long (ended_by (refused too_long) status before now (is_fault status) refl (replied (refused too_long) status before now says))
-  session_cause (Unread same written is) = inl (read_fault status is)
-  session_cause (Runs end at_end lines) =
-      lines_cause lines.input lines.told lines.holds.0 (done_or end (lines_of lines.input) lines.holds.1 (either status))
+  pub session_cause : SessionRuns left now old new status → HasCauseIn (SessionComesTo left) status
+  session_cause (Refuses long only says) =
+      refused_cause long (ended_by (refused too_long) status old.written new.written (is_fault status) refl (replied (refused too_long) status old.written new.written says))
+  session_cause (Unread same is) = inl (read_fault status is)
+  session_cause (Runs at_end lines) =
+      lines_cause lines.input lines.told lines.holds.0 (done_or (lines_of lines.input) lines.holds.1 (either status))
 
 -- ---- reading its input
 
 -- all of it was read, and its lines ran
-pub session_ran : (left mid : Option (List ℕ)) (bytes : List ℕ) (old new : Option Files) (before now : Option (List ℕ)) (status : Status)
-    → Takes left mid bytes → IsAtEnd mid → length bytes ≤ most_session_bytes → LinesRun (lines_of bytes) mid old new before now status
-    → SessionRuns left old new before now status
-session_ran left mid bytes old new before now status taken end within runs =
+read_all : (left mid : Option (List ℕ)) (bytes : List ℕ) (old new : Outside) (status : Status)
+    → Takes left mid bytes → IsAtEnd mid → length bytes ≤ most_session_bytes → LinesRun (lines_of bytes) mid old new status
+    → SessionRuns left mid old new status
+read_all left mid bytes old new status taken end within runs =
     let short : is_long bytes ≡ false = lt-leb (most_session_bytes + 1) (length bytes) (omega arith) in
-    Runs mid end (record { input = bytes; told = all_taken left mid bytes taken end; holds = (short, runs) })
+    Runs end (record { input = bytes; told = all_taken left mid bytes taken end; holds = (short, runs) })
+
+-- the same where no line took from what was left
+pub session_ran : (left mid now : Option (List ℕ)) (bytes : List ℕ) (old new : Outside) (status : Status)
+    → Takes left mid bytes → IsAtEnd mid → length bytes ≤ most_session_bytes → LinesRun (lines_of bytes) mid old new status
+    → now ≡ mid → SessionRuns left now old new status
+session_ran left mid now bytes old new status taken end within runs same =
+    subst (λ (l : Option (List ℕ)). SessionRuns left l old new status) (sym same)
+    (read_all left mid bytes old new status taken end within runs)
 
 long_input : (left mid : Option (List ℕ)) (bytes : List ℕ) → Takes left mid bytes → most_session_bytes < length bytes
     → ForSomeInput left (λ input. is_long input ≡ true)
@@ -197,13 +205,13 @@ long_input (Some all) mid bytes taken more =
     record { input = all; told = refl; holds = le-leb (most_session_bytes + 1) (length all) (omega arith) }
 
 -- more came than the limit, and this was printed
-pub session_long : (left mid : Option (List ℕ)) (files : Option Files) (before now : Option (List ℕ)) (status refusal : Status) (told block : ℕ)
+pub session_long : (left mid : Option (List ℕ)) (old new : Outside) (status refusal : Status) (told block : ℕ)
     → (told ≡ most_session_bytes) × TakesSome left mid (λ n. (most_session_bytes < n) × (n ≤ most_session_bytes + block))
-    → refusal ≡ Limit limit.Session (told + 1) told → Prints refusal (line_of refusal) before now status
-    → SessionRuns left files files before now status
-session_long left mid files before now status refusal told block h is prints =
+    → refusal ≡ Limit limit.Session (told + 1) told → OnlyPrints old new → Prints refusal (line_of refusal) old.written new.written status
+    → SessionRuns left mid old new status
+session_long left mid old new status refusal told block h is only prints =
     let limit_is = h.0 in
     let same : refusal ≡ too_long = is ∙ ap (λ n. Limit limit.Session (n + 1) n) limit_is in
-    Refuses (long_input left mid h.1.came h.1.taken h.1.count.0) refl
-    (says_printed (λ reply. reply ≡ refused too_long) (refused too_long) status before now refl refl
-    (subst (λ (s : Status). Prints s (line_of s) before now status) same prints))
+    Refuses (long_input left mid h.1.came h.1.taken h.1.count.0) only
+    (says_printed (λ reply. reply ≡ refused too_long) (refused too_long) status old.written new.written refl refl
+    (subst (λ (s : Status). Prints s (line_of s) old.written new.written status) same prints))

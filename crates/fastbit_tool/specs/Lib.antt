@@ -1,4 +1,3 @@
 pub mod Completes
 pub mod Requests
 pub mod Session
-pub mod Looks

@@ -1,6 +1,7 @@
 -- What `run` does for a request: a session, or one command.
 use Rattle.std.specs.Prelude.{◌≡◌, ◌⊎◌, ⊤, ℕ, Bool, true, false, List, [], ◌∷◌, Option, Some, None, if◌then◌else◌}
 use Rattle.fb_outside.specs.Files.{Files, SameFiles}
+use Rattle.fb_outside.specs.Reads.{AddsOnly, Look}
 use Rattle.fb_outside.specs.Streams.{ForSomeInput, IsAtEnd}
 use Rattle.command_words.specs.declared.Job.{Job}
 use Rattle.command_words.specs.declared.Job.TheVariants.{Ardea, Gen, Ibis, Session}
@@ -11,9 +12,10 @@ use Rattle.statuses.specs.Outcome.{Outcome, refused}
 use Rattle.commands.specs.Command.{Command, command_of, command_outcome}
 use Rattle.commands.specs.Causes.{ComesTo, Says}
 use Rattle.commands.specs.Effects.{IsOfCommand, KeepsRefused}
+use Rattle.commands.specs.Looks.{IsLookOf, ReadsAllowed, TakesSteps}
 use Rattle.commands.specs.Order.{Yields}
 use Rattle.commands.specs.Order as order
-use Rattle.fastbit_tool.specs.Session.{LinesRun, is_long, line_command, lines_of, session_outcome, too_long}
+use Rattle.fastbit_tool.specs.Session.{LinesRun, Outside, is_long, line_command, lines_of, session_outcome, too_long}
 
 -- a session, or a command by itself
 pub data Asked : Type 0 where
@@ -75,21 +77,44 @@ abbrev pub AskedComesTo : Asked → Option (List ℕ) → Option Files → Outco
 AskedComesTo OfSession left files reply = SessionComesTo left reply
 AskedComesTo (Of command) left files reply = ComesTo command left files reply
 
--- A session ended before it ran a line, or ran those of its input, behind which nothing was left of it.
-pub data SessionRuns (left : Option (List ℕ)) (old new : Option Files) (before now : Option (List ℕ)) (status : Status) : Type 0 where
-  Refuses : ForSomeInput left (λ input. is_long input ≡ true) → SameFiles old new → Says (λ reply. reply ≡ refused too_long) status before now
-      → SessionRuns left old new before now status
-  Unread : SameFiles old new → now ≡ before → (status ≡ ReadFault) ⊎ (status ≡ OutOfMemory) → SessionRuns left old new before now status
-  Runs : (end : Option (List ℕ)) → IsAtEnd end
-      → ForSomeInput left (λ input. (is_long input ≡ false) × LinesRun (lines_of input) end old new before now status)
-      → SessionRuns left old new before now status
+-- nothing but what is printed changes
+pub record OnlyPrints (old new : Outside) : Type 0 where
+  pub files : SameFiles old.files new.files
+  pub reads : new.reads ≡ old.reads
+  pub steps : new.steps ≡ old.steps
 
--- what is printed: by a session line by line
-abbrev pub AskedRuns : Asked → Option (List ℕ) → Option Files → Option Files → Option (List ℕ) → Option (List ℕ) → Status → Type 0
-AskedRuns OfSession left old new before now status = SessionRuns left old new before now status
-AskedRuns (Of command) left old new before now status = Says (ComesTo command left old) status before now
+-- A session ended before it ran a line, or read its input to the end and ran the lines of it. `left` and `now` are what the source
+-- has left before and after.
+pub data SessionRuns (left now : Option (List ℕ)) (old new : Outside) (status : Status) : Type 0 where
+  Refuses : ForSomeInput left (λ input. is_long input ≡ true) → OnlyPrints old new
+      → Says (λ reply. reply ≡ refused too_long) status old.written new.written → SessionRuns left now old new status
+  Unread : new ≡ old → (status ≡ ReadFault) ⊎ (status ≡ OutOfMemory) → SessionRuns left now old new status
+  Runs : IsAtEnd now → ForSomeInput left (λ input. (is_long input ≡ false) × LinesRun (lines_of input) now old new status)
+      → SessionRuns left now old new status
 
--- a failure of the outside yields to each refusal that stands before it; a session's lines say it each for itself
+-- how it ran: a session line by line, a command by itself with what it comes to printed
+abbrev pub AskedRuns : Asked → (left now : Option (List ℕ)) → Outside → Outside → Status → Type 0
+AskedRuns OfSession left now old new status = SessionRuns left now old new status
+AskedRuns (Of command) left now old new status = Says (ComesTo command left old.files) status old.written new.written
+
+-- ---- of a command by itself; a session's lines say it each for itself
+
+-- each added read is of a file of the command, over the files that it finds
+abbrev pub AskedReads : Asked → Option Files → (old new : Option (List Look)) → Type 0
+AskedReads OfSession files old new = ⊤
+AskedReads (Of command) files old new = AddsOnly (IsLookOf command files) old new
+
+-- of values and of bitmaps it reads what its clause needs
+abbrev pub AskedAllowed : Asked → Option Files → (old new : Option (List Look)) → Status → Type 0
+AskedAllowed OfSession files old new status = ⊤
+AskedAllowed (Of command) files old new status = ReadsAllowed command files old new status
+
+-- and it takes few steps
+abbrev pub AskedSteps : Asked → Option Files → (old new : ℕ) → Type 0
+AskedSteps OfSession files old new = ⊤
+AskedSteps (Of command) files old new = TakesSteps command files old new
+
+-- a failure of the outside yields to each refusal that stands before it
 abbrev pub AskedYields : Asked → Option (List ℕ) → Status → Type 0
 AskedYields OfSession left status = ⊤
 AskedYields (Of command) left status = Yields command left status

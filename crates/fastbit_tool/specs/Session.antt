@@ -1,7 +1,8 @@
 -- A session: the lines of its input, run one after another.
 use Rattle.std.specs.Prelude.{◌≡◌, ◌≢◌, ◌⊎◌, ℕ, ◌+◌, ◌==◌, nat_le, Bool, true, false, not, is_some, List, [], ◌∷◌, ◌++◌, length, drop, Option, Some, None, if◌then◌else◌}
 use Rattle.std.specs.List.{slice_split}
-use Rattle.fb_outside.specs.Files.{Files, ChangesAmong, SameFiles}
+use Rattle.fb_outside.specs.Files.{Files, ChangesAmong}
+use Rattle.fb_outside.specs.Reads.{AddsOnly, Look}
 use Rattle.command_words.specs.declared.Job.{Job}
 use Rattle.command_words.specs.declared.Job.TheVariants.{Ardea, Gen, Ibis, Session}
 use Rattle.command_words.specs.Lines.{words_of}
@@ -16,6 +17,7 @@ use Rattle.statuses.specs.Outcome.{Outcome, refused}
 use Rattle.commands.specs.Command.{Command, Unknown, command_of, command_outcome}
 use Rattle.commands.specs.Causes.{ComesTo, HasCauseIn, Says}
 use Rattle.commands.specs.Effects.{IsOfCommand, KeepsRefused, LeavesAfter}
+use Rattle.commands.specs.Looks.{IsLookOf, ReadsAllowed, TakesSteps}
 use Rattle.commands.specs.Order.{Yields}
 use Rattle.commands.specs.Reply.{Replies, is_fault}
 
@@ -89,48 +91,58 @@ session_outcome input world = if is_long input then refused too_long else lines_
 
 -- ---- how they run over any files
 
--- A command of a session keeps the clauses of a command, and takes nothing from the input. `left` is what the source has
--- left, `old` and `new` are the files before and after, `before` and `now` what the sink had written.
-pub record CommandRuns (command : Command) (left : Option (List ℕ)) (old new : Option Files) (before now : Option (List ℕ)) (status : Status) : Type 0 where
-  pub replies : (world : World) → StandsFor old world → Replies (command_outcome command [] world) status before now
-  pub leaves : (world : World) → StandsFor old world → LeavesAfter (command_outcome command [] world).effects world status new
-  pub causes : HasCauseIn (ComesTo command left old) status
-  pub prints : Says (ComesTo command left old) status before now
-  pub kept : ChangesAmong (IsOfCommand command) old new
-  pub refused : is_fault status ≡ false → status ≢ Done → KeepsRefused command old new
+-- what stands outside of commands: the files and the reads of them, as far as the store tells these, what was printed as far as
+-- the sink tells it, and the steps that were taken
+pub record Outside : Type 0 where
+  pub files : Option Files
+  pub reads : Option (List Look)
+  pub written : Option (List ℕ)
+  pub steps : ℕ
+
+abbrev pub outside : Option Files → Option (List Look) → (written : Option (List ℕ)) → (steps : ℕ) → Outside
+outside files reads written steps = record { files = files; reads = reads; written = written; steps = steps }
+
+-- A command of a session keeps the clauses of a command, and takes nothing from the input. `left` is what the source has left.
+pub record CommandRuns (command : Command) (left : Option (List ℕ)) (old new : Outside) (status : Status) : Type 0 where
+  pub replies : (world : World) → StandsFor old.files world → Replies (command_outcome command [] world) status old.written new.written
+  pub leaves : (world : World) → StandsFor old.files world → LeavesAfter (command_outcome command [] world).effects world status new.files
+  pub causes : HasCauseIn (ComesTo command left old.files) status
+  pub prints : Says (ComesTo command left old.files) status old.written new.written
+  pub kept : ChangesAmong (IsOfCommand command) old.files new.files
+  pub refused : is_fault status ≡ false → status ≢ Done → KeepsRefused command old.files new.files
+  pub reads : AddsOnly (IsLookOf command old.files) old.reads new.reads
+  pub allowed : ReadsAllowed command old.files old.reads new.reads status
+  pub steps : TakesSteps command old.files old.steps new.steps
   pub order : Yields command left status
   pub unread : status ≢ ReadFault
 
 -- a line that is skipped does nothing
-pub record Skips (old new : Option Files) (before now : Option (List ℕ)) (status : Status) : Type 0 where
-  pub files : SameFiles old new
-  pub written : now ≡ before
+pub record Skips (old new : Outside) (status : Status) : Type 0 where
+  pub same : new ≡ old
   pub ends : (status ≡ Done) ⊎ (status ≡ OutOfMemory)
 
-abbrev pub LineRunsBy : Option Command → Option (List ℕ) → Option Files → Option Files → Option (List ℕ) → Option (List ℕ) → Status → Type 0
-LineRunsBy None left old new before now status = Skips old new before now status
-LineRunsBy (Some command) left old new before now status = CommandRuns command left old new before now status
+abbrev pub LineRunsBy : Option Command → Option (List ℕ) → Outside → Outside → Status → Type 0
+LineRunsBy None left old new status = Skips old new status
+LineRunsBy (Some command) left old new status = CommandRuns command left old new status
 
-abbrev pub LineRuns : List ℕ → Option (List ℕ) → Option Files → Option Files → Option (List ℕ) → Option (List ℕ) → Status → Type 0
-LineRuns line left old new before now status = LineRunsBy (line_command line) left old new before now status
+abbrev pub LineRuns : List ℕ → Option (List ℕ) → Outside → Outside → Status → Type 0
+LineRuns line left old new status = LineRunsBy (line_command line) left old new status
 
 -- the line ended with a fault, and with it the session
-pub record Stops (line : List ℕ) (left : Option (List ℕ)) (old new : Option Files) (before now : Option (List ℕ)) (status : Status) : Type 0 where
-  pub runs : LineRuns line left old new before now status
+pub record Stops (line : List ℕ) (left : Option (List ℕ)) (old new : Outside) (status : Status) : Type 0 where
+  pub runs : LineRuns line left old new status
   pub fault : is_fault status ≡ true
 
 -- the line ended without one, and the rest ran behind it
-pub record GoesOn (line : List ℕ) (left : Option (List ℕ)) (old : Option Files) (before : Option (List ℕ)) (Rest : Option Files → Option (List ℕ) → Type 0) : Type 0 where
-  pub files : Option Files
-  pub written : Option (List ℕ)
+pub record GoesOn (line : List ℕ) (left : Option (List ℕ)) (old : Outside) (Rest : Outside → Type 0) : Type 0 where
+  pub between : Outside
   pub status : Status
-  pub runs : LineRuns line left old files before written status
+  pub runs : LineRuns line left old between status
   pub fine : is_fault status ≡ false
-  pub rest : Rest files written
+  pub rest : Rest between
 
--- the lines ran one after another, each where those before it left it
-abbrev pub LinesRun : List (List ℕ) → Option (List ℕ) → Option Files → Option Files → Option (List ℕ) → Option (List ℕ) → Status → Type 0
-LinesRun [] left old new before now status = SameFiles old new × (now ≡ before) × (status ≡ Done)
-LinesRun (line ∷ lines) left old new before now status =
-    Stops line left old new before now status
-    ⊎ GoesOn line left old before (λ files written. LinesRun lines left files new written now status)
+-- The lines ran one after another, each where those before it left it.
+abbrev pub LinesRun : List (List ℕ) → Option (List ℕ) → Outside → Outside → Status → Type 0
+LinesRun [] left old new status = (new ≡ old) × (status ≡ Done)
+LinesRun (line ∷ lines) left old new status =
+    Stops line left old new status ⊎ GoesOn line left old (λ between. LinesRun lines left between new status)

@@ -6,7 +6,6 @@ mod sessions;
 ghost use Rattle.std.specs.Prelude.{◌≡◌, ◌≢◌, true, false};
 ghost use Rattle.fb_outside.specs.Causes.{HasCause, Rose};
 ghost use Rattle.fb_outside.specs.Files.{ChangesAmong};
-ghost use Rattle.fb_outside.specs.Reads.{AddsReads};
 ghost use Rattle.fb_outside.specs.Streams.{ForSomeInput, IsAtEnd};
 ghost use Rattle.command_words.specs.Words.{asked_by};
 ghost use Rattle.world.specs.World.{World};
@@ -15,8 +14,8 @@ ghost use Rattle.commands.specs.Reply.{Replies, is_fault};
 ghost use Rattle.commands.specs.Effects.{LeavesAfter};
 ghost use Rattle.commands.specs.Causes.{HasCauseIn};
 ghost use Rattle.fastbit_tool.specs.Completes.{Completes};
-ghost use Rattle.fastbit_tool.specs.Looks.{AskedRead};
-ghost use Rattle.fastbit_tool.specs.Requests.{AskedComesTo, AskedKeeps, AskedRuns, AskedYields, IsOfAsked, asked_of, is_session, outcome, takes_input};
+ghost use Rattle.fastbit_tool.specs.Requests.{AskedAllowed, AskedComesTo, AskedKeeps, AskedReads, AskedRuns, AskedSteps, AskedYields, IsOfAsked, asked_of, is_session, outcome, takes_input};
+ghost use Rattle.fastbit_tool.specs.Session.{outside};
 
 use command_words::{Job, request};
 use commands::run_command;
@@ -61,15 +60,18 @@ pub fn run<I: Source, S: Store, K: Sink, L: Ledger>(
     ensures refused { is_fault result ≡ false → result ≢ Status.Done
         → AskedKeeps (asked_of (asked_by words.now)) (S.files store.old) (S.files store.new) }
 
-    // Each added read is of a file of the command as it finds the files, by a session line by line.
-    ensures reads { ForSomeInput (I.left input.old)
-        (λ bytes. AddsReads (S.reads store.old) (S.reads store.new)
-        (AskedRead (asked_of (asked_by words.now)) (S.files store.old) (S.files store.new) bytes)) }
-
-    // Each status has its cause, and what it comes to is printed, by a session line by line.
+    // Each status has its cause, and what it comes to is printed. A session runs line by line, and each line keeps the
+    // clauses of its command, with the reads and the steps.
     ensures causes { HasCauseIn (AskedComesTo (asked_of (asked_by words.now)) (I.left input.old) (S.files store.old)) result }
-    ensures prints { AskedRuns (asked_of (asked_by words.now)) (I.left input.old) (S.files store.old) (S.files store.new)
-        (K.written out.old) (K.written out.new) result }
+    ensures prints { AskedRuns (asked_of (asked_by words.now)) (I.left input.old) (I.left input.new)
+        (outside (S.files store.old) (S.reads store.old) (K.written out.old) steps.old)
+        (outside (S.files store.new) (S.reads store.new) (K.written out.new) steps.new) result }
+
+    // Each read that a command adds is of its files, as it finds them. Where they stand for a world, a question and an
+    // estimate read what their clause needs, and take few steps.
+    ensures reads { AskedReads (asked_of (asked_by words.now)) (S.files store.old) (S.reads store.old) (S.reads store.new) }
+    ensures allowed { AskedAllowed (asked_of (asked_by words.now)) (S.files store.old) (S.reads store.old) (S.reads store.new) result }
+    ensures steps { AskedSteps (asked_of (asked_by words.now)) (S.files store.old) steps.old steps.new }
 
     // A failure of the outside is told, as such and only then, and yields to each refusal that stands before it.
     ensures read_cause { HasCause (I.faults input.old) (I.faults input.new) (result ≡ Status.ReadFault) }
@@ -93,6 +95,8 @@ fn is_session(asked: &Option<Job>) -> bool
     matches!(asked, Some(Job::Session))
 }
 
+#[cfg(test)]
+mod answer_tests;
 #[cfg(test)]
 mod listing_tests;
 #[cfg(test)]

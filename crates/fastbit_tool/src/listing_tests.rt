@@ -68,7 +68,7 @@ fn the_index_that_is_built_is_listed(rt: HostRuntime) -> Result<(), Fail> {
     let loaded = "loaded 10 rows\n";
     expect_load(&rt, rt.blank(), &mut store, LOAD, TEN, 0, loaded)?;
     for (words, code, printed) in BUILDS {
-        expect_words(&rt, rt.blank(), &mut store, words, *code, *printed)?;
+        expect_words(&rt, rt.blank(), &mut store, words, *code, printed)?;
     }
     keep(&rt, &mut store, "D/p0000/a.idx", b"FBIX\x02\0\0\0")?;
     let damaged = "error 8 damaged D/p0000/a.idx Index\n";

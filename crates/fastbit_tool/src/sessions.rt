@@ -4,7 +4,6 @@ ghost use Rattle.std.specs.Prelude.{◌≡◌, ◌≢◌, ◌∷◌, ◌+◌, �
 ghost use Rattle.std.specs.List.{prefix_len};
 ghost use Rattle.fb_outside.specs.Causes.{HasCause};
 ghost use Rattle.fb_outside.specs.Files.{ChangesAmong, SameFiles};
-ghost use Rattle.fb_outside.specs.Reads.{AddsOnly, AddsReads};
 ghost use Rattle.fb_outside.specs.Streams.{ForSomeInput, IsAtEnd};
 ghost use Rattle.world.specs.World.{World};
 ghost use Rattle.world.specs.Stands.{StandsFor};
@@ -12,11 +11,9 @@ ghost use Rattle.command_words.specs.Valid.{IsValid};
 ghost use Rattle.commands.specs.Causes.{HasCauseIn};
 ghost use Rattle.commands.specs.Command.{command_of};
 ghost use Rattle.commands.specs.Effects.{LeavesAfter};
-ghost use Rattle.commands.specs.Looks.{IsLookOf};
 ghost use Rattle.commands.specs.Reply.{Replies, is_fault as ends_it};
-ghost use Rattle.fastbit_tool.specs.Looks.{IsLineLook, LinesRead};
 ghost use Rattle.fastbit_tool.specs.Requests.{SessionComesTo, SessionRuns, IsOfAsked, OfSession};
-ghost use Rattle.fastbit_tool.specs.Session.{CommandRuns, LineRuns, LinesRun, in_session as allowed, is_plain, lines_from, lines_of, session_outcome};
+ghost use Rattle.fastbit_tool.specs.Session.{CommandRuns, LineRuns, LinesRun, in_session as allowed, is_plain, lines_from, lines_of, outside, session_outcome};
 
 use command_words::{Job, line_words, request};
 use commands::{refuse, run_command};
@@ -54,11 +51,9 @@ pub fn session<I: Source, S: Store, K: Sink, L: Ledger>(
 
     // It is refused exactly where the input is too long, and else its lines ran, each by the clauses of its command.
     ensures causes { HasCauseIn (SessionComesTo (I.left input.old)) result }
-    ensures ran { SessionRuns (I.left input.old) (S.files store.old) (S.files store.new) (K.written out.old) (K.written out.new) result }
-
-    // Each line reads files of its command alone, as it finds them.
-    ensures reads { ForSomeInput (I.left input.old)
-        (λ bytes. AddsReads (S.reads store.old) (S.reads store.new) (LinesRead (lines_of bytes) (S.files store.old) (S.files store.new))) }
+    ensures ran { SessionRuns (I.left input.old) (I.left input.new)
+        (outside (S.files store.old) (S.reads store.old) (K.written out.old) steps.old)
+        (outside (S.files store.new) (S.reads store.new) (K.written out.new) steps.new) result }
 
     // A failure of the outside is told, as such and only then.
     ensures read_cause { HasCause (I.faults input.old) (I.faults input.new) (result ≡ Status.ReadFault) }
@@ -75,9 +70,9 @@ fn run_session<I: Source, S: Store, K: Sink, L: Ledger>(
     out: &mut K,
     steps: &mut Steps<L>,
 ) -> Status
-    ensures ran { SessionRuns (I.left input.old) (S.files store.old) (S.files store.new) (K.written out.old) (K.written out.new) result }
-    ensures reads { ForSomeInput (I.left input.old)
-        (λ bytes. AddsReads (S.reads store.old) (S.reads store.new) (LinesRead (lines_of bytes) (S.files store.old) (S.files store.new))) }
+    ensures ran { SessionRuns (I.left input.old) (I.left input.new)
+        (outside (S.files store.old) (S.reads store.old) (K.written out.old) steps.old)
+        (outside (S.files store.new) (S.reads store.new) (K.written out.new) steps.new) result }
     ensures end { result ≡ Status.Done → IsAtEnd (I.left input.new) }
     ensures read_cause { HasCause (I.faults input.old) (I.faults input.new) (result ≡ Status.ReadFault) }
     ensures store_cause { HasCause (S.faults store.old) (S.faults store.new) (result ≡ Status.StoreFault) }
@@ -104,7 +99,7 @@ fn too_long(limit: u64) -> Status
 }
 
 /// Runs the lines one after another.
-#[tactic(auto, using(crate::proofs::LookLemmas::line_reads, crate::proofs::LookLemmas::last_reads, crate::proofs::LookLemmas::end_reads, crate::proofs::RunLinesLemmas::run_goes, crate::proofs::RunLinesLemmas::run_stops, crate::proofs::RunLinesLemmas::run_none))]
+#[tactic(auto, using(crate::proofs::RunLinesLemmas::run_goes, crate::proofs::RunLinesLemmas::run_stops, crate::proofs::RunLinesLemmas::run_none))]
 fn run_lines<I: Source, S: Store, K: Sink, L: Ledger>(
     alloc: Global,
     text: &[u8],
@@ -113,9 +108,9 @@ fn run_lines<I: Source, S: Store, K: Sink, L: Ledger>(
     out: &mut K,
     steps: &mut Steps<L>,
 ) -> Status
-    ensures runs { LinesRun (lines_of text.now) (I.left input.old) (S.files store.old) (S.files store.new)
-        (K.written out.old) (K.written out.new) result }
-    ensures reads { AddsReads (S.reads store.old) (S.reads store.new) (LinesRead (lines_of text.now) (S.files store.old) (S.files store.new)) }
+    ensures runs { LinesRun (lines_of text.now) (I.left input.old)
+        (outside (S.files store.old) (S.reads store.old) (K.written out.old) steps.old)
+        (outside (S.files store.new) (S.reads store.new) (K.written out.new) steps.new) result }
     ensures untouched { (I.left input.new ≡ I.left input.old) × (I.faults input.new ≡ I.faults input.old) }
     ensures store_cause { HasCause (S.faults store.old) (S.faults store.new) (result ≡ Status.StoreFault) }
     ensures print_cause { HasCause (K.faults out.old) (K.faults out.new) (result ≡ Status.SinkFault) }
@@ -161,6 +156,7 @@ fn is_fault(status: &Status) -> bool
 }
 
 /// Runs one line: the command that its words spell, a refusal where they spell none, nothing where it is skipped.
+#[tactic(auto, using(crate::proofs::RequestLemmas::quiet_line))]
 fn run_line<I: Source, S: Store, K: Sink, L: Ledger>(
     alloc: Global,
     line: &[u8],
@@ -169,9 +165,9 @@ fn run_line<I: Source, S: Store, K: Sink, L: Ledger>(
     out: &mut K,
     steps: &mut Steps<L>,
 ) -> Status
-    ensures runs { LineRuns line.now (I.left input.old) (S.files store.old) (S.files store.new)
-        (K.written out.old) (K.written out.new) result }
-    ensures reads { AddsOnly (IsLineLook line.now (S.files store.old)) (S.reads store.old) (S.reads store.new) }
+    ensures runs { LineRuns line.now (I.left input.old)
+        (outside (S.files store.old) (S.reads store.old) (K.written out.old) steps.old)
+        (outside (S.files store.new) (S.reads store.new) (K.written out.new) steps.new) result }
     ensures untouched { (I.left input.new ≡ I.left input.old) × (I.faults input.new ≡ I.faults input.old) }
     ensures store_cause { HasCause (S.faults store.old) (S.faults store.new) (result ≡ Status.StoreFault) }
     ensures print_cause { HasCause (K.faults out.old) (K.faults out.new) (result ≡ Status.SinkFault) }
@@ -220,9 +216,9 @@ fn run_asked<I: Source, S: Store, K: Sink, L: Ledger>(
 ) -> Status
     requires valid { IfSome asked IsValid }
     requires allowed { allowed asked ≡ asked }
-    ensures runs { CommandRuns (command_of asked) (I.left input.old) (S.files store.old) (S.files store.new)
-        (K.written out.old) (K.written out.new) result }
-    ensures reads { AddsOnly (IsLookOf (command_of asked) (S.files store.old)) (S.reads store.old) (S.reads store.new) }
+    ensures runs { CommandRuns (command_of asked) (I.left input.old)
+        (outside (S.files store.old) (S.reads store.old) (K.written out.old) steps.old)
+        (outside (S.files store.new) (S.reads store.new) (K.written out.new) steps.new) result }
     ensures untouched { (I.left input.new ≡ I.left input.old) × (I.faults input.new ≡ I.faults input.old) }
     ensures store_cause { HasCause (S.faults store.old) (S.faults store.new) (result ≡ Status.StoreFault) }
     ensures print_cause { HasCause (K.faults out.old) (K.faults out.new) (result ≡ Status.SinkFault) }

@@ -181,6 +181,8 @@ fn loads_of_all_types(rt: HostRuntime) -> Result<(), Fail> {
     )?;
     let differs = "error 4 schema differs at column 1\n";
     expect_load(&rt, rt.blank(), &mut store, LOAD_LONG, "2\n", 4, differs)?;
+    let one = &["ibis", "-d", "D", "-q", "where a = 1"];
+    expect_asked(&rt, rt.blank(), &mut store, one, 0, "hits 1\n")?;
     expect_load(
         &rt,
         rt.blank(),
@@ -354,7 +356,11 @@ fn refuses_words_schemas_and_queries(rt: HostRuntime) -> Result<(), Fail> {
             7,
             "error 7 missing E/-catalog.txt\n",
         ),
-        (["ibis", "-d", "D", "-e", "where a < 5"], 1, usage),
+        (
+            ["ibis", "-d", "D", "-e", "where a < 5"],
+            0,
+            "between 0 and 0\n",
+        ),
         (["ibis", "-d", "D", "-d", "D"], 1, usage),
         (["ardea", "-d", "u/", "-m", "a:int"], 1, usage),
         (

@@ -1,5 +1,5 @@
 -- The index of a column in a world opens, and says its specification.
-use Rattle.std.proofs.Common.{◌≡◌, ◌-◌, ◌^◌, ◌≤◌, ℕ, ℤ, pos, negsuc, neg_ℤ, ◌≤ℤ◌, Bool, true, false, List, [], ◌∷◌, filter, length, map, Option, Some, None, IsSome, is_some, Ok, FitsSigned, refl, sym, ap, subst, ◌∙◌, arith}
+use Rattle.std.proofs.Common.{◌≡◌, ◌+◌, ◌-◌, ◌^◌, ◌<◌, ◌≤◌, ℕ, ℤ, pos, negsuc, neg_ℤ, ◌≤ℤ◌, Bool, true, false, List, [], ◌∷◌, filter, length, map, Option, Some, None, IsSome, is_some, Result, Ok, Err, FitsSigned, refl, sym, ap, subst, ◌∙◌, arith}
 use Rattle.std.specs.FinMap.{get}
 use Rattle.std.specs.Int.{w128}
 use Rattle.std.specs.List.{All, AllByRecursion, slice_get}
@@ -8,6 +8,8 @@ use Rattle.std.proofs.lemmas.Int.{ints}
 use Rattle.std.proofs.lemmas.List.{length-map}
 use Rattle.std.proofs.lemmas.List.Elements.{recursion_from_All}
 use Rattle.fb_outside.specs.Files.{Files, file_at}
+use Rattle.fb_outside.specs.Names.{IsPath}
+use Rattle.fb_types.specs.declared.cells.Cell.{Cell}
 use Rattle.fb_types.specs.declared.schemas.Column.{Column}
 use Rattle.fb_types.specs.declared.types.ColType.{ColType}
 use Rattle.fb_types.specs.declared.types.ColType.TheVariants.{Byte, UByte, Short, UShort, Int, UInt, Long, ULong, Category, Text}
@@ -17,15 +19,20 @@ use Rattle.index_spec.specs.Language.{IsGiven}
 use Rattle.index_spec.specs.declared.spec.Spec.{Spec}
 use Rattle.index_file.specs.IndexFile.{EdgeFits, IsIndex, places_of}
 use Rattle.index_file.specs.Opening.{Head, head_in, index_in}
+use Rattle.index_file.specs.declared.edge.Edge.{Edge}
+use Rattle.index_file.specs.declared.fault.IndexFault.{IndexFault}
 use Rattle.index_file.proofs.WrittenLemmas.{index_again}
 use Rattle.binning.specs.Bins.{bin_of, bins_of, cells, present, values_with}
+use Rattle.binning.specs.Encodings.{vectors}
 use Rattle.binning.specs.Gathered.{is_in}
 use Rattle.binning.specs.Keys.{key, rising}
+use Rattle.binning.specs.Members.{bitmaps_of}
 use Rattle.binning.specs.declared.rules.Keying.{Keying}
 use Rattle.binning.proofs.BinOrderLemmas.{ends_there}
 use Rattle.binning.proofs.ColumnLemmas.{length-cells}
 use Rattle.binning.proofs.KeyLemmas.{eq_from, eq_self, is_in-rising, kept_of, or_left, or_right}
 use Rattle.binning.proofs.TestLemmas.{either}
+use Rattle.part_meta.specs.declared.part.PartMeta.{PartMeta}
 use Rattle.part_meta.specs.FileNames.{index_name}
 use Rattle.world.specs.Cells.{column_cells, is_present, stored_numbers}
 use Rattle.world.specs.IndexFiles.{bins_by, bitmaps_by, column_index, edge_of, index_of, keys_by}

@@ -1,17 +1,24 @@
 -- The lines of a listing, one after another, and what stops it.
-use Rattle.std.proofs.Common.{◌≡◌, ◌+◌, ◌<◌, ◌≤◌, ℕ, zero, suc, Bool, true, false, List, [], ◌∷◌, ◌++◌, length, get_or, take, map, Option, Some, None, IfSome, is_some, Result, Ok, Err, refl, sym, ap, subst, ◌∙◌, arith, append_assoc, append-nil}
+use Rattle.std.proofs.Common.{inl, inr, ◌≡◌, ◌+◌, ◌<◌, ◌≤◌, ℕ, zero, suc, Bool, true, false, List, [], ◌∷◌, ◌++◌, length, get_or, take, map, Option, Some, None, IfSome, IsSome, is_some, Result, Ok, Err, refl, sym, ap, subst, ◌∙◌, arith, append_assoc, append-nil}
 use Rattle.std.specs.List.{AllByRecursion, flat_map, slice_get}
+use Rattle.std.specs.Prelude.{OnOk}
 use Rattle.std.proofs.lemmas.List.{map-append, take_all}
 use Rattle.std.proofs.lemmas.Grind.{flat_map-append}
 use Rattle.std.proofs.lemmas.Option.{slice_get_read}
 use Rattle.fb_outside.specs.Files.{Files}
+use Rattle.fb_outside.specs.Names.{IsPath}
 use Rattle.fb_outside.specs.Reads.{AddsOnly, Look}
 use Rattle.fb_outside.proofs.ReadLemmas.{AddsOnly-trans, AddsOnly-weaken}
 use Rattle.fb_types.specs.declared.schemas.Column.{Column}
 use Rattle.fb_types.specs.Types.{width_of}
-use Rattle.index_file.specs.Opening.{IsHeadLook}
+use Rattle.index_spec.specs.declared.spec.Spec.{Spec}
+use Rattle.index_file.specs.Opening.{Head, IsHeadLook, opened_index}
+use Rattle.index_file.specs.declared.fault.IndexFault.{IndexFault}
 use Rattle.index_file.specs.declared.head.IndexHead.{IndexHead}
 use Rattle.part_meta.specs.declared.part.PartMeta.{PartMeta}
+use Rattle.dataset.specs.Damage.{Damage}
+use Rattle.dataset.specs.Found.{IsFound, There}
+use Rattle.dataset.specs.Opened.{IsTextLook}
 use Rattle.dataset.specs.PartColumns.{IfDamaged}
 use Rattle.dataset.specs.PartIndexes.{IsOfIndex, OpensIndex, index_at, index_file}
 use Rattle.dataset.specs.declared.content.Dataset.{Dataset}
@@ -21,9 +28,8 @@ use Rattle.statuses.specs.declared.stop.Unanswered.{Unanswered}
 use Rattle.statuses.specs.declared.stop.Unanswered.TheVariants.{Refused, StoreFault, OutOfMemory}
 use Rattle.ibis.specs.Indexes.{AreIndexes, AreSound, Indexed, IsDamaged, IsFirstDamaged, IsFirstOfPart, spec_at, spec_said}
 use Rattle.ibis.specs.Listing.{AreListed, IsListed, ListedPart, column_line, index_line, line_by, listing, part_line, part_lines, schema_line}
-use Rattle.ibis.specs.ListSteps.{DatasetGives, IndexGives, PartGives, Refuses}
-use Rattle.ibis.specs.Looks.{IsIndexLook, IsPartIndexLook}
-use Rattle.ibis.specs.Steps.{stop_of_part}
+use Rattle.ibis.specs.ListSteps.{DatasetGives, IndexGives, PartGives, Refuses, stop_of_part}
+use Rattle.ibis.specs.Looks.{IsIndexLook, IsListLook, IsPartIndexLook}
 
 all_joined : {X : Type 0} (P : X → Type 0) (xs ys : List X) → AllByRecursion P xs → AllByRecursion P ys → AllByRecursion P (xs ++ ys)
 all_joined P [] ys h k = k

@@ -1,5 +1,5 @@
 -- Where the files stand for a world, a listing is that of its dataset.
-use Rattle.std.proofs.Common.{◌≡◌, ◌+◌, ℕ, suc, List, [], ◌∷◌, map, Option, Some, None, Result, Ok, Err, refl, sym, ap, subst, ◌∙◌, arith}
+use Rattle.std.proofs.Common.{◌≡◌, ◌+◌, ◌<◌, ◌≤◌, ℕ, zero, suc, List, [], ◌∷◌, map, Option, Some, None, IfSome, Result, Ok, Err, IfOk, refl, sym, ap, subst, ◌∙◌, arith}
 use Rattle.std.specs.FinMap.{get}
 use Rattle.std.specs.List.{AllByRecursion, slice_get}
 use Rattle.fb_outside.specs.Files.{Files}
@@ -9,18 +9,21 @@ use Rattle.index_spec.specs.declared.spec.Spec.{Spec}
 use Rattle.index_file.specs.declared.fault.IndexFault.{IndexFault}
 use Rattle.part_meta.specs.declared.part.PartMeta.{PartMeta}
 use Rattle.world.specs.PartFiles.{part_data}
-use Rattle.world.specs.Stands.{Stands}
+use Rattle.world.specs.Stands.{Stands, StandsFor}
 use Rattle.world.specs.World.{Content, Partition, World, content_at}
 use Rattle.dataset.specs.Damage.{Damage}
-use Rattle.dataset.specs.Found.{Found, dataset_in, found_by, found_in}
+use Rattle.dataset.specs.Found.{Found, IsFound, There, dataset_in, found_by, found_in}
+use Rattle.dataset.specs.PartIndexes.{index_at}
 use Rattle.dataset.specs.declared.content.Dataset.{Dataset}
 use Rattle.dataset.proofs.ListLemmas.{map-at}
 use Rattle.dataset.proofs.WorldLemmas.{found_is}
 use Rattle.statuses.specs.declared.Status.{Status}
 use Rattle.statuses.specs.declared.stop.Unanswered.{Unanswered}
+use Rattle.statuses.specs.declared.stop.Unanswered.TheVariants.{Refused, StoreFault, OutOfMemory}
 use Rattle.statuses.specs.Opening.{dataset_or_refusal}
+use Rattle.statuses.specs.Outcome.{◌>>=◌}
 use Rattle.ibis.specs.Indexes.{AreIndexes, Indexed, IsFirstDamaged, spec_at, spec_said}
-use Rattle.ibis.specs.Listing.{IsListed, ListComes, ListGives, ListedPart, ListsBy, ListsWorld, indexed_from, list_result, listed_part, listing, parts_at}
+use Rattle.ibis.specs.Listing.{AreListed, IsListed, ListComes, ListGives, ListedPart, ListsBy, ListsWorld, indexed_from, list_result, listed_part, listing, parts_at}
 use Rattle.ibis.proofs.IndexLemmas.{spec_in_world}
 use Rattle.ibis.proofs.ListLemmas.{asked_of_width}
 

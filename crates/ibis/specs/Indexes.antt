@@ -1,5 +1,5 @@
 -- How the columns of a dataset's parts are indexed, by their files; and the first index that is damaged.
-use Rattle.std.specs.Prelude.{◌≡◌, ℕ, List, map, take, Option, Some, None, IfSome, IsSome, Result, Ok, Err, is_some, slice_get, if◌then◌else◌}
+use Rattle.std.specs.Prelude.{◌≡◌, ⊤, ℕ, List, map, take, Option, Some, None, IfSome, IsSome, Result, Ok, Err, is_some, slice_get, if◌then◌else◌}
 use Rattle.std.specs.List.{AllByRecursion}
 use Rattle.fb_outside.specs.Files.{Files}
 use Rattle.fb_types.specs.declared.schemas.Column.{Column}

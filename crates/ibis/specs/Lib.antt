@@ -1,9 +1,4 @@
-pub mod Query
-pub mod Count
 pub mod Indexes
 pub mod Listing
 pub mod ListSteps
-pub mod Steps
-pub mod Rows
-pub mod Runs
 pub mod Looks

@@ -6,8 +6,11 @@ use Rattle.index_spec.specs.declared.spec.Spec.{Spec}
 use Rattle.part_meta.specs.declared.part.PartMeta.{PartMeta}
 use Rattle.dataset.specs.Damage.{Damage}
 use Rattle.dataset.specs.declared.content.Dataset.{Dataset}
+use Rattle.dataset.specs.declared.fault.PartFault.{PartFault}
+use Rattle.dataset.specs.declared.fault.PartFault.TheVariants as fault
 use Rattle.statuses.specs.declared.stop.Unanswered.{Unanswered}
 use Rattle.statuses.specs.declared.stop.Unanswered.TheVariants.{Refused, StoreFault, OutOfMemory}
+use Rattle.statuses.specs.declared.Status.{Status}
 use Rattle.statuses.specs.Opening.{damaged_status}
 use Rattle.ibis.specs.Indexes.{AreIndexes, Indexed, IsDamaged, IsFirstDamaged, IsFirstOfPart, spec_at}
 use Rattle.ibis.specs.Listing.{ListsBy, line_by, part_lines}
@@ -35,3 +38,10 @@ PartGives files dataset part old new (Err stop) = Refuses (IsFirstOfPart files d
 abbrev pub DatasetGives : Option Files → Dataset → Result (List ℕ) Unanswered → Type 0
 DatasetGives files dataset (Ok text) = ListsBy files (Ok dataset) (Ok text)
 DatasetGives files dataset (Err stop) = Refuses (IsFirstDamaged files dataset) stop
+
+-- what an index that isn't opened is answered by
+abbrev pub stop_of_part : PartFault → Unanswered
+stop_of_part (fault.Damaged file kind want have) =
+    Refused (damaged_status (record { file = file; kind = kind; want = want; have = have }))
+stop_of_part fault.Store = StoreFault
+stop_of_part fault.OutOfMemory = OutOfMemory

@@ -1,35 +1,14 @@
--- What a question and a listing read.
-use Rattle.std.specs.Prelude.{◌≡◌, ◌⊎◌, ◌<◌, ℕ, List, Option, Some, IfSome, Ok, slice_get}
+-- What a listing reads.
+use Rattle.std.specs.Prelude.{◌≡◌, ◌⊎◌, ℕ, List, Option, Some, IfSome, slice_get}
 use Rattle.fb_outside.specs.Files.{Files}
 use Rattle.fb_outside.specs.Reads.{Look}
 use Rattle.fb_types.specs.declared.schemas.Column.{Column}
 use Rattle.index_file.specs.Opening.{IsHeadLook}
 use Rattle.part_meta.specs.declared.part.PartMeta.{PartMeta}
-use Rattle.part_meta.specs.FileNames.{mask_name, values_name}
 use Rattle.dataset.specs.Found.{IsFound, There}
 use Rattle.dataset.specs.Opened.{IsTextLook}
 use Rattle.dataset.specs.PartIndexes.{index_file}
 use Rattle.dataset.specs.declared.content.Dataset.{Dataset}
-use Rattle.ibis.specs.declared.query.Below.{Below}
-use Rattle.ibis.specs.Query.{read_query}
-
--- at the values or the mask of the column of this name, in a part
-pub record IsColumnLook (dir name : List ℕ) (look : Look) : Type 0 where
-  pub number : ℕ
-  pub few : number < 4096
-  pub file : (look.name ≡ values_name dir number name) ⊎ (look.name ≡ mask_name dir number name)
-
--- at those of the column that the query names
-pub record IsAskedLook (dir query : List ℕ) (look : Look) : Type 0 where
-  pub below : Below
-  pub asks : read_query query ≡ Ok below
-  pub file : IsColumnLook dir below.name look
-
--- a question reads the texts of its dataset, and its column
-abbrev pub IsCountLook : List ℕ → List ℕ → Look → Type 0
-IsCountLook dir query look = IsTextLook dir look ⊎ IsAskedLook dir query look
-
--- ---- a listing
 
 -- within the head of the index file of a column in the part
 pub record IsPartIndexLook (files : Option Files) (dataset : Dataset) (part : PartMeta) (look : Look) : Type 0 where

@@ -1,13 +1,8 @@
-//! The command `ibis`: what is asked of a dataset.
+//! The command `ibis -l`: the schema of a dataset, and its parts with the indexes of their columns.
 #![tactic(auto)]
 
-mod counting;
 mod listing;
-mod opening;
-mod query;
-mod rows;
 #[cfg(test)]
 mod tests;
 
-pub use counting::count;
 pub use listing::list;

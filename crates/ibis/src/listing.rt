@@ -9,16 +9,15 @@ ghost use Rattle.dataset.specs.Opened.{IsDataset};
 ghost use Rattle.dataset.specs.PartIndexes.{index_file};
 ghost use Rattle.index_file.specs.Opening.{IsHeadLook};
 ghost use Rattle.ibis.specs.Listing.{ListGives, ListsWorld, index_line, part_line, schema_line, text_of};
-ghost use Rattle.ibis.specs.ListSteps.{DatasetGives, IndexGives, PartGives};
+ghost use Rattle.ibis.specs.ListSteps.{DatasetGives, IndexGives, PartGives, stop_of_part};
 ghost use Rattle.ibis.specs.Looks.{IsIndexLook, IsListLook, IsPartIndexLook};
 
-use crate::opening::stop_of_part;
-use dataset::{Dataset, open_part_index};
+use dataset::{Dataset, PartFault, open_part_index};
 use fb_outside::{FileName, Store};
 use fb_types::{ColName, Column, Schema, print_schema};
 use index_spec::{Spec, print_spec};
 use part_meta::PartMeta;
-use statuses::{Unanswered, opened};
+use statuses::{Unanswered, damaged, opened};
 use std::alloc::{AllocError, Global};
 
 /// The lines of the schema of the dataset at the path, and of its parts with the indexes of their columns. No file changes.
@@ -127,6 +126,22 @@ fn push_index<S: Store>(
         }
         Ok(None) => Ok(()),
         Err(fault) => Err(stop_of_part(fault)),
+    }
+}
+
+/// The answer to an index that isn't opened.
+fn stop_of_part(fault: PartFault) -> Unanswered
+    ensures { result ≡ stop_of_part fault }
+{
+    match fault {
+        PartFault::Damaged {
+            file,
+            kind,
+            want,
+            have,
+        } => damaged(file, kind, want, have),
+        PartFault::Store => Unanswered::StoreFault,
+        PartFault::OutOfMemory => Unanswered::OutOfMemory,
     }
 }
 

@@ -1,16 +1,11 @@
-ghost use Rattle.std.specs.Prelude.{◌≡◌, ◌<◌, IsUtf8};
 ghost use Rattle.fb_outside.specs.Names.{IsPath};
 
 use super::*;
 use fb_outside::{FileName, MemStore, Store};
-use fb_types::Label;
 use statuses::Unanswered;
 use std::alloc::{AllocError, Global};
-use std::marker::Brand;
 use std::process::Abort;
-use std::sync::ledger::Ledger;
 use std::test::Fail;
-use steps::{Blank, Count, Steps};
 
 const CATALOG: &[u8] = b"fastbit catalog 1\nschema a:int,b:category\nnext 3\npart 0\npart 2\n";
 
@@ -22,15 +17,11 @@ const PART_2: &[u8] =
 
 type File = (&'static str, &'static [u8]);
 
-/// A dataset of two parts, whose column `a` has 7 and -1, and then null, 4 and 9.
+/// A dataset of two parts.
 const FILES: &[File] = &[
     ("D/-catalog.txt", CATALOG),
     ("D/p0000/-part.txt", PART_0),
     ("D/p0002/-part.txt", PART_2),
-    ("D/p0000/a", &[7, 0, 0, 0, 255, 255, 255, 255]),
-    ("D/p0000/a.msk", &[2, 0, 0, 0, 0, 0, 0, 0, 3, 0, 0, 0]),
-    ("D/p0002/a", &[0, 0, 0, 0, 4, 0, 0, 0, 9, 0, 0, 0]),
-    ("D/p0002/a.msk", &[3, 0, 0, 0, 0, 0, 0, 0, 3, 0, 0, 0]),
 ];
 
 fn named<R: Abort + AllocGlobal>(rt: &R, text: &str) -> FileName {
@@ -57,66 +48,6 @@ fn store_of<R: Abort + AllocGlobal>(rt: &R) -> MemStore {
         assert!(rt; store.put(named(rt, name).as_str(), bytes).is_ok());
     }
     store
-}
-
-/// What is counted, or the refusal's line; None where the outside failed or memory ran out.
-fn counted<L: Ledger>(
-    blank: Blank,
-    alloc: Global,
-    store: &mut MemStore,
-    dir: &FileName,
-    query: &Label,
-) -> Result<Option<String>, AllocError>
-    requires text { IsUtf8 query.now }
-    requires ledger { blank.name ≡ L.name }
-    requires parts { blank.parts ≡ L.parts }
-    requires some { 0 < blank.parts }
-    requires path { IsPath dir.now }
-{
-    let mut steps = Steps::<L>::new(blank);
-    match count(alloc, dir, query, store, &mut steps) {
-        Ok(hits) => Ok(Some(format!(in alloc; "{hits}\n")?)),
-        Err(Unanswered::Refused(status)) => Ok(Some(status.line(alloc)?)),
-        Err(_) => Ok(None),
-    }
-}
-
-fn check_count<R: Abort + AllocGlobal>(
-    rt: &R,
-    blank: Blank,
-    store: &mut MemStore,
-    dir: &FileName,
-    query: &str,
-    want: &str,
-) -> Result<(), AllocError>
-    requires path { IsPath dir.now }
-    requires some { 0 < blank.parts }
-{
-    let asked = Label::from_bytes(rt.alloc(), query.as_bytes())?;
-    match counted::<Brand>(blank, rt.alloc(), store, dir, &asked)? {
-        Some(have) => assert!(rt; have.as_str() == want, "{query}"),
-        None => rt.panic("a count stopped"),
-    }
-    Ok(())
-}
-
-#[test]
-fn records_of_two_parts_are_counted(rt: HostRuntime) -> Result<(), Fail> {
-    let mut store = store_of(&rt);
-    let dir = path(&rt, "D");
-    let rows = [
-        ("where a < 10", "4\n"),
-        ("where a < 9", "3\n"),
-        ("where a < 1", "1\n"),
-        ("where a < -1", "0\n"),
-        ("where b < 1", "error 6 query WrongType b\n"),
-        ("where c < 1", "error 6 query Unknown c\n"),
-        ("a < 1", "error 6 query Syntax\n"),
-    ];
-    for (query, want) in rows {
-        check_count(&rt, rt.blank(), &mut store, &dir, query, want)?;
-    }
-    Ok(())
 }
 
 const LISTED: &[u8] = b"schema a:int,b:category\npart 0 rows 2\npart 2 rows 3\n";

@@ -1,11 +1,13 @@
 -- Reads that calls add one after another: they are joined, less is said of them, and those of a call that was refused are a front.
-use Rattle.std.proofs.Common.{◌≡◌, ℕ, arith, Result, Err, Bool, IsTrue, List, [], ◌∷◌, ◌++◌, Option, refl, sym, ap, subst, ◌∙◌, append_assoc, append-nil}
+use Rattle.std.proofs.Common.{◌≡◌, ℕ, arith, Result, Err, Bool, IsTrue, List, [], ◌∷◌, ◌++◌, Option, Some, refl, sym, ap, subst, ◌∙◌, append_assoc, append-nil}
+use Rattle.std.specs.Prelude.{slice_get}
 use Rattle.std.specs.List.{AllByRecursion, filter}
 use Rattle.std.proofs.lemmas.List.Elements.{filter-append}
 use Rattle.fb_outside.specs.Causes.{HasCause}
-use Rattle.fb_outside.specs.Reads.{Look}
-use Rattle.fb_outside.proofs.ReadLemmas.{AddsReads-trans, AddsReads-weaken, AddsReads-same, all_weaken}
-use Rattle.stages.specs.Faults.{IsRefused}
+use Rattle.fb_outside.specs.Reads.{AddsOnly, Look}
+use Rattle.fb_outside.proofs.ReadLemmas.{AddsOnly-trans, AddsOnly-weaken, AddsReads-trans, AddsReads-weaken, AddsReads-same, all_weaken}
+use Rattle.where_plan.specs.declared.plan.PlanAtom.{PlanAtom}
+use Rattle.stages.specs.Faults.{IsOneOf, IsRefused}
 use Rattle.stages.specs.Looks.{AddsLooks, Looks}
 
 all_joined : (P : Look → Type 0) (xs ys : List Look) → AllByRecursion P xs → AllByRecursion P ys → AllByRecursion P (xs ++ ys)
@@ -64,6 +66,22 @@ adds_none old new allowed is_bitmap done e =
 pub adds_done : (old new : Option (List Look)) (allowed is_bitmap : Look → Bool) (xs : List Look) (done more : Type 0) → (more → done) → AddsLooks old new allowed is_bitmap xs done → AddsLooks old new allowed is_bitmap xs more
 adds_done old new allowed is_bitmap xs done more f h =
     AddsReads-weaken {P = Looks allowed is_bitmap xs done} {Q = Looks allowed is_bitmap xs more} old new (λ a l. record { each = l.each; left = l.left; front = l.front; whole = λ is. l.whole (f is) }) h
+
+-- ---- reads of files of the conditions' columns
+
+-- a read for one of these conditions
+abbrev pub IsLookFor : (PlanAtom → Look → Type 0) → List PlanAtom → Look → Type 0
+IsLookFor is_look atoms look = IsOneOf atoms (λ atom. is_look atom look)
+
+-- those of one more condition
+pub looks_for_one : (is_look : PlanAtom → Look → Type 0) (atoms : List PlanAtom) (place : ℕ) (atom : PlanAtom) (old mid new : Option (List Look)) → slice_get atoms place ≡ Some atom → AddsOnly (IsLookFor is_look atoms) old mid → AddsOnly (is_look atom) mid new → AddsOnly (IsLookFor is_look atoms) old new
+looks_for_one is_look atoms place atom old mid new at h k =
+    AddsOnly-trans (IsLookFor is_look atoms) old mid new h
+    (AddsOnly-weaken (is_look atom) (IsLookFor is_look atoms) mid new (λ look is. record { place = place; atom = atom; there = at; is = is }) k)
+
+-- the same list of conditions
+pub looks_for_same : (is_look : PlanAtom → Look → Type 0) (atoms all : List PlanAtom) (old new : Option (List Look)) → atoms ≡ all → AddsOnly (IsLookFor is_look atoms) old new → AddsOnly (IsLookFor is_look all) old new
+looks_for_same is_look atoms all old new e h = subst (λ l. AddsOnly (IsLookFor is_look l) old new) e h
 
 -- ---- calls that were refused for want of memory
 

@@ -4,6 +4,7 @@ ghost use Rattle.std.specs.declared.alloc.AllocError.{AllocError};
 ghost use Rattle.where_plan.specs.declared.plan.PlanAtom.{PlanAtom};
 ghost use Rattle.fb_outside.specs.Causes.{HasCause};
 ghost use Rattle.fb_outside.specs.Files.{Files, SameFiles};
+ghost use Rattle.fb_outside.specs.Reads.{AddsOnly, Look};
 ghost use Rattle.wah_iter.specs.Rows.{rows_of};
 ghost use Rattle.wah_logic.specs.Logic.{and, each_place, groups_and_rest};
 ghost use Rattle.wah_words.specs.Limits.{most_bits};
@@ -50,6 +51,9 @@ pub trait Conditions {
     // What the fault says of files of the condition's column.
     ghost stops: { Self → Option Files → PlanAtom → Self.Fault → Type 0 };
 
+    // The read is of a file of the condition's column.
+    ghost is_look: { Self → PlanAtom → Look → Type 0 };
+
     // The store failed.
     ghost is_store: { Self.Fault → Type 0 };
 
@@ -73,6 +77,7 @@ pub trait Conditions {
         ensures cause { HasCause (S.faults store.old) (S.faults store.new) (IsRefused result is_store) }
         ensures files { SameFiles (S.files store.old) (S.files store.new) }
         ensures stop { IfErr result (stops self.now (S.files store.old) atom.now) }
+        ensures looks { AddsOnly (is_look self.now atom.now) (S.reads store.old) (S.reads store.new) }
         ensures opened { IfOk result (λ settled. is_open self.now (S.files store.old) atom.now settled.column) }
         ensures length { IfOk result (λ settled. length settled.answers ≡ rows self.now) }
 
@@ -99,6 +104,7 @@ pub trait Conditions {
         ensures cause { HasCause (S.faults store.old) (S.faults store.new) (IsRefused result is_store) }
         ensures files { SameFiles (S.files store.old) (S.files store.new) }
         ensures stop { IfErr result (stops self.now (S.files store.old) atom.now) }
+        ensures looks { AddsOnly (is_look self.now atom.now) (S.reads store.old) (S.reads store.new) }
         ensures length { IfOk result (λ found. length found ≡ rows self.now) }
         ensures steps { steps.new ≤ steps.old + 2 * groups_and_rest (rows self.now) }
 

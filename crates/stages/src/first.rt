@@ -3,6 +3,7 @@ ghost use Rattle.std.specs.Prelude.{◌≡◌, ◌⊎◌, ℕ, ◌+◌, ◌*◌,
 ghost use Rattle.std.specs.List.{AllByRecursion, flat_map, list_any};
 ghost use Rattle.fb_outside.specs.Causes.{HasCause};
 ghost use Rattle.fb_outside.specs.Files.{SameFiles};
+ghost use Rattle.fb_outside.specs.Reads.{AddsOnly};
 ghost use Rattle.wah_logic.specs.Logic.{groups_and_rest};
 ghost use Rattle.three_valued.specs.Rows.{columns};
 ghost use Rattle.stages.specs.Faults.{IsOneOf, IsRefused};
@@ -38,6 +39,7 @@ pub(crate) fn settle_all<S: Store, C: Conditions, L: Ledger>(
     ensures cause { HasCause (S.faults store.old) (S.faults store.new) (IsRefused result C.is_store) }
     ensures files { SameFiles (S.files store.old) (S.files store.new) }
     ensures stop { IfErr result (λ fault. C.is_memory fault ⊎ IsOneOf atoms.now (λ atom. C.stops conditions.now (S.files store.old) atom fault)) }
+    ensures looks { AddsOnly (λ look. IsOneOf atoms.now (λ atom. C.is_look conditions.now atom look)) (S.reads store.old) (S.reads store.new) }
     ensures number_opened { IfOk result (λ stage. length stage.opened.items ≡ length atoms.now) }
     ensures number { IfOk result (λ stage. length stage.answers.items ≡ length atoms.now) }
     ensures long { IfOk result (λ stage. All (λ a. length a ≡ C.rows conditions.now) stage.answers.items) }

@@ -3,6 +3,7 @@ ghost use Rattle.std.specs.Prelude.{◌≡◌, ◌⊎◌, ℕ, ◌+◌, ◌*◌,
 ghost use Rattle.std.specs.List.{AllByRecursion, list_any};
 ghost use Rattle.fb_outside.specs.Causes.{HasCause};
 ghost use Rattle.fb_outside.specs.Files.{SameFiles};
+ghost use Rattle.fb_outside.specs.Reads.{AddsOnly};
 ghost use Rattle.wah_iter.specs.Rows.{rows_of};
 ghost use Rattle.wah_words.specs.Limits.{most_bits};
 ghost use Rattle.wah_logic.specs.Logic.{and, each_place, groups_and_rest, ones};
@@ -60,6 +61,7 @@ fn find<S: Store, C: Conditions, L: Ledger>(
     ensures cause { HasCause (S.faults store.old) (S.faults store.new) (IsRefused result C.is_store) }
     ensures files { SameFiles (S.files store.old) (S.files store.new) }
     ensures stop { IfErr result (C.stops conditions.now (S.files store.old) atom.now) }
+    ensures looks { AddsOnly (C.is_look conditions.now atom.now) (S.reads store.old) (S.reads store.new) }
     ensures length { IfOk result (λ found. length found ≡ C.rows conditions.now) }
     ensures steps { steps.new ≤ steps.old + 2 * groups_and_rest (C.rows conditions.now) }
 
@@ -93,6 +95,7 @@ fn decide<S: Store, C: Conditions, L: Ledger>(
     ensures cause { HasCause (S.faults store.old) (S.faults store.new) (IsRefused result C.is_store) }
     ensures files { SameFiles (S.files store.old) (S.files store.new) }
     ensures stop { IfErr result (λ fault. C.is_memory fault ⊎ C.stops conditions.now (S.files store.old) atom.now fault) }
+    ensures looks { AddsOnly (C.is_look conditions.now atom.now) (S.reads store.old) (S.reads store.new) }
     ensures length { IfOk result (λ made. length made.answers ≡ C.rows conditions.now) }
     ensures checked { IfOk result (λ made. made.checked ≡ ones (candidates_in answers.now unknown.now)) }
     ensures steps { steps.new ≤ steps.old + 2 * groups_and_rest (C.rows conditions.now) * 8 }
@@ -131,6 +134,7 @@ pub(crate) fn decide_all<S: Store, C: Conditions, L: Ledger>(
     ensures cause { HasCause (S.faults store.old) (S.faults store.new) (IsRefused result C.is_store) }
     ensures files { SameFiles (S.files store.old) (S.files store.new) }
     ensures stop { IfErr result (λ fault. C.is_memory fault ⊎ IsOneOf atoms.now (λ atom. C.stops conditions.now (S.files store.old) atom fault)) }
+    ensures looks { AddsOnly (λ look. IsOneOf atoms.now (λ atom. C.is_look conditions.now atom look)) (S.reads store.old) (S.reads store.new) }
     ensures number { IfOk result (λ made. length made.answers.items ≡ length atoms.now) }
     ensures few { IfOk result (λ made. made.checked < 2 ^ 54) }
     ensures length { IfOk result (λ made. All (λ a. length a ≡ C.rows conditions.now) made.answers.items) }

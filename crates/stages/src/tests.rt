@@ -86,6 +86,8 @@ impl Conditions for Sheet {
 
     ghost stops = { λ s files atom fault. ⊤ };
 
+    ghost is_look = { λ s atom look. ⊥ };
+
     ghost is_store = { λ fault. ⊥ };
 
     ghost is_memory = { λ fault. ⊤ };

@@ -5,6 +5,7 @@ ghost use Rattle.binning.specs.declared.against_bins.Three.{Three};
 ghost use Rattle.where_plan.specs.declared.plan.PlanAtom.{PlanAtom};
 ghost use Rattle.fb_outside.specs.Causes.{HasCause};
 ghost use Rattle.fb_outside.specs.Files.{SameFiles};
+ghost use Rattle.fb_outside.specs.Reads.{AddsOnly};
 ghost use Rattle.wah_logic.specs.Logic.{groups_and_rest, ones};
 ghost use Rattle.wah_words.specs.Limits.{most_bits};
 ghost use Rattle.three_valued.specs.Candidates.{checked, definite_rows, possible_rows};
@@ -101,6 +102,7 @@ pub fn estimate<S: Store, C: Conditions, L: Ledger>(
     ensures cause { HasCause (S.faults store.old) (S.faults store.new) (IsRefused result C.is_store) }
     ensures files { SameFiles (S.files store.old) (S.files store.new) }
     ensures stop { IfErr result (λ fault. C.is_memory fault ⊎ IsOneOf (atoms_of plan.now) (λ atom. C.stops conditions.now (S.files store.old) atom fault)) }
+    ensures looks { AddsOnly (λ look. IsOneOf (atoms_of plan.now) (λ atom. C.is_look conditions.now atom look)) (S.reads store.old) (S.reads store.new) }
     ensures few { IfOk result (λ bounds. (bounds.definite ≤ C.rows conditions.now) × (bounds.possible ≤ C.rows conditions.now)) }
 
     // Where the files are sound.
@@ -143,6 +145,7 @@ fn second_stage<S: Store, C: Conditions, L: Ledger>(
     ensures cause { HasCause (S.faults store.old) (S.faults store.new) (IsRefused result C.is_store) }
     ensures files { SameFiles (S.files store.old) (S.files store.new) }
     ensures stop { IfErr result (λ fault. C.is_memory fault ⊎ IsOneOf atoms.now (λ atom. C.stops conditions.now (S.files store.old) atom fault)) }
+    ensures looks { AddsOnly (λ look. IsOneOf atoms.now (λ atom. C.is_look conditions.now atom look)) (S.reads store.old) (S.reads store.new) }
     ensures length { IfOk result (λ hits. length hits.rows ≡ C.rows conditions.now) }
     ensures count { IfOk result (λ hits. hits.count ≡ ones hits.rows) }
     ensures few { IfOk result (λ hits. hits.checked < 2 ^ 54) }
@@ -185,6 +188,7 @@ fn hits_of<S: Store, C: Conditions, L: Ledger>(
     ensures cause { HasCause (S.faults store.old) (S.faults store.new) (IsRefused result C.is_store) }
     ensures files { SameFiles (S.files store.old) (S.files store.new) }
     ensures stop { IfErr result (λ fault. C.is_memory fault ⊎ IsOneOf atoms.now (λ atom. C.stops conditions.now (S.files store.old) atom fault)) }
+    ensures looks { AddsOnly (λ look. IsOneOf atoms.now (λ atom. C.is_look conditions.now atom look)) (S.reads store.old) (S.reads store.new) }
     ensures length { IfOk result (λ hits. length hits.rows ≡ C.rows conditions.now) }
     ensures count { IfOk result (λ hits. hits.count ≡ ones hits.rows) }
     ensures few { IfOk result (λ hits. hits.checked < 2 ^ 54) }
@@ -227,6 +231,7 @@ pub fn evaluate<S: Store, C: Conditions, L: Ledger>(
     ensures cause { HasCause (S.faults store.old) (S.faults store.new) (IsRefused result C.is_store) }
     ensures files { SameFiles (S.files store.old) (S.files store.new) }
     ensures stop { IfErr result (λ fault. C.is_memory fault ⊎ IsOneOf (atoms_of plan.now) (λ atom. C.stops conditions.now (S.files store.old) atom fault)) }
+    ensures looks { AddsOnly (λ look. IsOneOf (atoms_of plan.now) (λ atom. C.is_look conditions.now atom look)) (S.reads store.old) (S.reads store.new) }
     ensures length { IfOk result (λ hits. length hits.rows ≡ C.rows conditions.now) }
     ensures count { IfOk result (λ hits. hits.count ≡ ones hits.rows) }
     ensures few { IfOk result (λ hits. hits.checked < 2 ^ 54) }

@@ -5,8 +5,7 @@ use Rattle.commands.specs.Command.{command_of, command_outcome}
 use Rattle.commands.proofs.PrintLemmas.{quiet_leaves, quiet_replies}
 use Rattle.fastbit_tool.specs.Requests.{Of, OfSession, asked_of, outcome}
 use Rattle.fastbit_tool.proofs.CompleteLemmas.{call_completes, memory_completes}
-use Rattle.fastbit_tool.proofs.LookLemmas.{quiet_reads}
-use Rattle.fastbit_tool.proofs.RequestLemmas.{command_asked, quiet_keeps, session_asked}
+use Rattle.fastbit_tool.proofs.RequestLemmas.{command_asked, quiet_allowed, quiet_keeps, quiet_reads, quiet_steps, session_asked}
 use Rattle.fastbit_tool.proofs.run.Goals as goal
 
 -- ---- a session
@@ -75,5 +74,10 @@ returns-in-Err-clause-completeness g c =
     (g.S.Store.files c.args.store.now) (g.I.Source.faults c.args.input.now) (g.S.Store.faults c.args.store.now) (g.K.Sink.faults c.args.out.now)
 
 pub returns-in-Err-clause-reads : goal.returns-in-Err-clause-reads
-returns-in-Err-clause-reads g c =
-    quiet_reads (asked_of (asked_by c.args.words.now)) (g.I.Source.left c.args.input.now) (g.S.Store.reads c.args.store.now) (g.S.Store.files c.args.store.now)
+returns-in-Err-clause-reads g c = quiet_reads (asked_of (asked_by c.args.words.now)) (g.S.Store.files c.args.store.now) (g.S.Store.reads c.args.store.now)
+
+pub returns-in-Err-clause-allowed : goal.returns-in-Err-clause-allowed
+returns-in-Err-clause-allowed g c = quiet_allowed (asked_of (asked_by c.args.words.now)) (g.S.Store.files c.args.store.now) (g.S.Store.reads c.args.store.now)
+
+pub returns-in-Err-clause-steps : goal.returns-in-Err-clause-steps
+returns-in-Err-clause-steps g c = quiet_steps (asked_of (asked_by c.args.words.now)) (g.S.Store.files c.args.store.now) c.args.steps.now

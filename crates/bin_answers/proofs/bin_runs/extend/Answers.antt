@@ -1,6 +1,5 @@
-use Rattle.std.proofs.Common.{◌≡◌, ◌-◌, ◌+◌, false, length, arith, sym, ◌∙◌}
+use Rattle.std.proofs.Common.{◌≡◌, ◌-◌, ◌+◌, length, arith, sym, ◌∙◌}
 use Rattle.binning.specs.declared.against_bins.Three.TheVariants.{No}
-use Rattle.bin_answers.specs.BinRuns.{is_same}
 use Rattle.bin_answers.proofs.RunLemmas.{bin_first, bin_next, bin_on, same_test}
 use Rattle.bin_answers.proofs.bin_runs.extend.Goals as goal
 use Rattle.bin_answers.proofs.bin_runs.extend.Goals.{then-count-gt0+else-last-bin, else-last-bin-via-then-last-bin+else-eq-2, else-last-bin-via-else-last-bin, else-count-gt0}

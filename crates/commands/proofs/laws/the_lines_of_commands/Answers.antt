@@ -2,7 +2,7 @@ use Rattle.std.proofs.Common.{refl}
 use Rattle.std.specs.Fmt.{digits}
 use Rattle.statuses.specs.Lines.{line_of}
 use Rattle.ardea.specs.Load.{loaded_line}
-use Rattle.ibis.specs.Count.{hits_line}
+use Rattle.ibis_answer.specs.Answer.{between_line, checked_line, hits_line}
 use Rattle.ibis_build.specs.Builds.{built_line}
 use Rattle.commands.proofs.laws.the_lines_of_commands.Goals as goal
 
@@ -11,8 +11,12 @@ unfolding loaded_line digits
 returns-clause-loaded c = refl
 
 pub returns-clause-hits : goal.returns-clause-hits
-unfolding hits_line digits
+unfolding hits_line checked_line digits
 returns-clause-hits c = refl
+
+pub returns-clause-between : goal.returns-clause-between
+unfolding between_line digits
+returns-clause-between c = refl
 
 pub returns-clause-built : goal.returns-clause-built
 unfolding built_line digits

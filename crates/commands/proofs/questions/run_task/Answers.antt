@@ -1,20 +1,26 @@
-use Rattle.std.proofs.Common.{◌≡◌, true, false, ap}
-use Rattle.command_words.specs.declared.Task.TheVariants.{Answer}
-use Rattle.commands.specs.Command.{Builds, Counts, Lists, Unknown, command_of_task}
-use Rattle.commands.proofs.RunLemmas.{count_leaves, leaves_at, list_leaves, runs_at, unknown_leaves, usage_runs}
+use Rattle.std.proofs.Common.{ap}
+use Rattle.commands.specs.Command.{Answers, Builds, Estimates, Lists, Unknown, command_of_task}
+use Rattle.commands.proofs.RunLemmas.{answer_leaves, estimate_leaves, leaves_at, list_leaves, runs_at, unknown_leaves, usage_runs}
 use Rattle.commands.proofs.BuildRunLemmas.{build_leaves, build_ran}
 use Rattle.commands.proofs.questions.run_task.Goals as goal
 
-pub returns-in-Answer-default-false-clause-runs : goal.returns-in-Answer-default-false-clause-runs
-returns-in-Answer-default-false-clause-runs g c = λ left.
-    let is : c.args.task.now ≡ Answer c.in-Answer-default-false.query false = cc in
-    runs_at _ (Counts c.args.dir.now c.in-Answer-default-false.query) left _ _ _ _ (ap (command_of_task c.args.dir.now) is) (c.run_count.ensures.runs left)
+pub returns-in-Answer-clause-runs : goal.returns-in-Answer-clause-runs
+returns-in-Answer-clause-runs g c = λ left.
+    runs_at _ (Answers c.args.dir.now c.in-Answer.query c.in-Answer.tell) left _ _ _ _ (ap (command_of_task c.args.dir.now) c.in-Answer.is) (c.run_answer.ensures.runs left)
 
-pub returns-in-Answer-default-false-clause-leaves : goal.returns-in-Answer-default-false-clause-leaves
-returns-in-Answer-default-false-clause-leaves g c =
-    let is : c.args.task.now ≡ Answer c.in-Answer-default-false.query false = cc in
-    leaves_at _ (Counts c.args.dir.now c.in-Answer-default-false.query) _ _ _ (ap (command_of_task c.args.dir.now) is)
-    (count_leaves c.args.dir.now c.in-Answer-default-false.query _ _ _ c.run_count.ensures.files)
+pub returns-in-Answer-clause-leaves : goal.returns-in-Answer-clause-leaves
+returns-in-Answer-clause-leaves g c =
+    leaves_at _ (Answers c.args.dir.now c.in-Answer.query c.in-Answer.tell) _ _ _ (ap (command_of_task c.args.dir.now) c.in-Answer.is)
+    (answer_leaves c.args.dir.now c.in-Answer.query c.in-Answer.tell _ _ _ c.run_answer.ensures.files)
+
+pub returns-in-Estimate-clause-runs : goal.returns-in-Estimate-clause-runs
+returns-in-Estimate-clause-runs g c = λ left.
+    runs_at _ (Estimates c.args.dir.now c.in-Estimate.query) left _ _ _ _ (ap (command_of_task c.args.dir.now) c.in-Estimate.is) (c.run_estimate.ensures.runs left)
+
+pub returns-in-Estimate-clause-leaves : goal.returns-in-Estimate-clause-leaves
+returns-in-Estimate-clause-leaves g c =
+    leaves_at _ (Estimates c.args.dir.now c.in-Estimate.query) _ _ _ (ap (command_of_task c.args.dir.now) c.in-Estimate.is)
+    (estimate_leaves c.args.dir.now c.in-Estimate.query _ _ _ c.run_estimate.ensures.files)
 
 pub returns-in-List-clause-runs : goal.returns-in-List-clause-runs
 returns-in-List-clause-runs g c = λ left.
@@ -23,24 +29,6 @@ returns-in-List-clause-runs g c = λ left.
 pub returns-in-List-clause-leaves : goal.returns-in-List-clause-leaves
 returns-in-List-clause-leaves g c =
     leaves_at _ (Lists c.args.dir.now) _ _ _ (ap (command_of_task c.args.dir.now) c.in-List.is) (list_leaves c.args.dir.now _ _ _ c.run_list.ensures.files)
-
-pub returns-in-Answer-default-true-clause-runs : goal.returns-in-Answer-default-true-clause-runs
-returns-in-Answer-default-true-clause-runs g c = λ left.
-    let is : c.args.task.now ≡ Answer c.in-Answer-default-true.query true = cc in
-    runs_at _ Unknown left _ _ _ _ (ap (command_of_task c.args.dir.now) is) (usage_runs left _ _ _ c.refuse.result c.refuse.ensures.prints)
-
-pub returns-in-Answer-default-true-clause-leaves : goal.returns-in-Answer-default-true-clause-leaves
-returns-in-Answer-default-true-clause-leaves g c =
-    let is : c.args.task.now ≡ Answer c.in-Answer-default-true.query true = cc in
-    leaves_at _ Unknown _ _ _ (ap (command_of_task c.args.dir.now) is) (unknown_leaves _ _)
-
-pub returns-in-Estimate-clause-runs : goal.returns-in-Estimate-clause-runs
-returns-in-Estimate-clause-runs g c = λ left.
-    runs_at _ Unknown left _ _ _ _ (ap (command_of_task c.args.dir.now) c.in-Estimate.is)
-    (usage_runs left _ _ _ c.refuse-in-Estimate.result c.refuse-in-Estimate.ensures.prints)
-
-pub returns-in-Estimate-clause-leaves : goal.returns-in-Estimate-clause-leaves
-returns-in-Estimate-clause-leaves g c = leaves_at _ Unknown _ _ _ (ap (command_of_task c.args.dir.now) c.in-Estimate.is) (unknown_leaves _ _)
 
 pub returns-in-Build-clause-runs : goal.returns-in-Build-clause-runs
 returns-in-Build-clause-runs g c = λ left.
@@ -55,7 +43,7 @@ returns-in-Build-clause-leaves g c =
 pub returns-in-Check-clause-runs : goal.returns-in-Check-clause-runs
 returns-in-Check-clause-runs g c = λ left.
     runs_at _ Unknown left _ _ _ _ (ap (command_of_task c.args.dir.now) c.in-Check.is)
-    (usage_runs left _ _ _ c.refuse-in-Check.result c.refuse-in-Check.ensures.prints)
+    (usage_runs left _ _ _ c.refuse.result c.refuse.ensures.prints)
 
 pub returns-in-Check-clause-leaves : goal.returns-in-Check-clause-leaves
 returns-in-Check-clause-leaves g c = leaves_at _ Unknown _ _ _ (ap (command_of_task c.args.dir.now) c.in-Check.is) (unknown_leaves _ _)

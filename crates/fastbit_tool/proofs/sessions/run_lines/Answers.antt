@@ -1,5 +1,4 @@
 use Rattle.std.proofs.Common.{rules, sym, ◌∙◌, arith}
-use Rattle.fastbit_tool.proofs.LookLemmas.{next_reads}
 use Rattle.fastbit_tool.proofs.RunLinesLemmas.{run_next}
 use Rattle.fastbit_tool.proofs.sessions.run_lines.Goals as goal
 
@@ -11,13 +10,9 @@ loop-at-preserved-else-is_fault g c =
       unread = search rules;
       stored = search rules;
       printed = search rules;
-      reads = λ new files k.
-          c.loop-at.invariant.reads new files
-          (next_reads c.args.text.now c.loop-at.at _ _ new _ _ files _ _ _ c.run_line-status.result c.line_at-line.result.now _ c.line_at-line.ensures.first (omega arith)
-          c.run_line-status.ensures.runs c.run_line-status.ensures.reads k);
-      rest = λ new now status k.
-          c.loop-at.invariant.rest new now status
-          (run_next c.args.text.now c.loop-at.at _ _ new _ now status c.line_at-line.result.now _ _ _ _ c.run_line-status.result
+      rest = λ new status k.
+          c.loop-at.invariant.rest new status
+          (run_next c.args.text.now c.loop-at.at _ _ new status c.line_at-line.result.now _ _ _ c.run_line-status.result
           c.line_at-line.ensures.first (omega arith) c.loop-at.invariant.left c.run_line-status.ensures.runs (sym c.is_fault.ensures ∙ c.if-is_fault.false) k);
     }
 
@@ -29,13 +24,9 @@ loop-at-preserved-else-is_fault-2 g c =
       unread = search rules;
       stored = search rules;
       printed = search rules;
-      reads = λ new files k.
-          c.loop-at.invariant.reads new files
-          (next_reads c.args.text.now c.loop-at.at _ _ new _ _ files _ _ _ c.run_line-status.result c.line_at-line.result.now _ c.line_at-line.ensures.first (omega arith)
-          c.run_line-status.ensures.runs c.run_line-status.ensures.reads k);
-      rest = λ new now status k.
-          c.loop-at.invariant.rest new now status
-          (run_next c.args.text.now c.loop-at.at _ _ new _ now status c.line_at-line.result.now _ _ _ _ c.run_line-status.result
+      rest = λ new status k.
+          c.loop-at.invariant.rest new status
+          (run_next c.args.text.now c.loop-at.at _ _ new status c.line_at-line.result.now _ _ _ c.run_line-status.result
           c.line_at-line.ensures.first (omega arith) c.loop-at.invariant.left c.run_line-status.ensures.runs (sym c.is_fault.ensures ∙ c.if-is_fault.false) k);
     }
 
@@ -47,13 +38,9 @@ loop-at-preserved-else-is_fault-3 g c =
       unread = search rules;
       stored = search rules;
       printed = search rules;
-      reads = λ new files k.
-          c.loop-at.invariant.reads new files
-          (next_reads c.args.text.now c.loop-at.at _ _ new _ _ files _ _ _ c.run_line-status.result c.line_at-line.result.now _ c.line_at-line.ensures.first (omega arith)
-          c.run_line-status.ensures.runs c.run_line-status.ensures.reads k);
-      rest = λ new now status k.
-          c.loop-at.invariant.rest new now status
-          (run_next c.args.text.now c.loop-at.at _ _ new _ now status c.line_at-line.result.now _ _ _ _ c.run_line-status.result
+      rest = λ new status k.
+          c.loop-at.invariant.rest new status
+          (run_next c.args.text.now c.loop-at.at _ _ new status c.line_at-line.result.now _ _ _ c.run_line-status.result
           c.line_at-line.ensures.first (omega arith) c.loop-at.invariant.left c.run_line-status.ensures.runs (sym c.is_fault.ensures ∙ c.if-is_fault.false) k);
     }
 
@@ -65,13 +52,9 @@ loop-at-preserved-else-is_fault-4 g c =
       unread = search rules;
       stored = search rules;
       printed = search rules;
-      reads = λ new files k.
-          c.loop-at.invariant.reads new files
-          (next_reads c.args.text.now c.loop-at.at _ _ new _ _ files _ _ _ c.run_line-status.result c.line_at-line.result.now _ c.line_at-line.ensures.first (omega arith)
-          c.run_line-status.ensures.runs c.run_line-status.ensures.reads k);
-      rest = λ new now status k.
-          c.loop-at.invariant.rest new now status
-          (run_next c.args.text.now c.loop-at.at _ _ new _ now status c.line_at-line.result.now _ _ _ _ c.run_line-status.result
+      rest = λ new status k.
+          c.loop-at.invariant.rest new status
+          (run_next c.args.text.now c.loop-at.at _ _ new status c.line_at-line.result.now _ _ _ c.run_line-status.result
           c.line_at-line.ensures.first (omega arith) c.loop-at.invariant.left c.run_line-status.ensures.runs (sym c.is_fault.ensures ∙ c.if-is_fault.false) k);
     }
 
@@ -83,13 +66,9 @@ loop-at-preserved-else-is_fault-5 g c =
       unread = search rules;
       stored = search rules;
       printed = search rules;
-      reads = λ new files k.
-          c.loop-at.invariant.reads new files
-          (next_reads c.args.text.now c.loop-at.at _ _ new _ _ files _ _ _ c.run_line-status.result c.line_at-line.result.now _ c.line_at-line.ensures.first (omega arith)
-          c.run_line-status.ensures.runs c.run_line-status.ensures.reads k);
-      rest = λ new now status k.
-          c.loop-at.invariant.rest new now status
-          (run_next c.args.text.now c.loop-at.at _ _ new _ now status c.line_at-line.result.now _ _ _ _ c.run_line-status.result
+      rest = λ new status k.
+          c.loop-at.invariant.rest new status
+          (run_next c.args.text.now c.loop-at.at _ _ new status c.line_at-line.result.now _ _ _ c.run_line-status.result
           c.line_at-line.ensures.first (omega arith) c.loop-at.invariant.left c.run_line-status.ensures.runs (sym c.is_fault.ensures ∙ c.if-is_fault.false) k);
     }
 
@@ -101,12 +80,8 @@ loop-at-preserved g c =
       unread = search rules;
       stored = search rules;
       printed = search rules;
-      reads = λ new files k.
-          c.loop-at.invariant.reads new files
-          (next_reads c.args.text.now c.loop-at.at _ _ new _ _ files _ _ _ c.run_line-status.result c.line_at-line.result.now _ c.line_at-line.ensures.first (omega arith)
-          c.run_line-status.ensures.runs c.run_line-status.ensures.reads k);
-      rest = λ new now status k.
-          c.loop-at.invariant.rest new now status
-          (run_next c.args.text.now c.loop-at.at _ _ new _ now status c.line_at-line.result.now _ _ _ _ c.run_line-status.result
+      rest = λ new status k.
+          c.loop-at.invariant.rest new status
+          (run_next c.args.text.now c.loop-at.at _ _ new status c.line_at-line.result.now _ _ _ c.run_line-status.result
           c.line_at-line.ensures.first (omega arith) c.loop-at.invariant.left c.run_line-status.ensures.runs (sym c.is_fault.ensures ∙ c.if-is_fault.false) k);
     }

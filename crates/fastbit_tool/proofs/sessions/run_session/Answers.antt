@@ -1,16 +1,15 @@
 use Rattle.std.proofs.Common.{◌≡◌, refl, sym, ◌∙◌, arith}
 use Rattle.fastbit_tool.specs.Session.{lines_of}
 use Rattle.fastbit_tool.proofs.LinesLemmas.{lines_unread}
-use Rattle.fastbit_tool.proofs.LookLemmas.{no_lines_read}
 use Rattle.fastbit_tool.proofs.SessionLemmas.{session_long, session_ran}
 use Rattle.fastbit_tool.proofs.sessions.run_session.Goals as goal
 
 pub returns-in-Ok-clause-ran : goal.returns-in-Ok-clause-ran
 returns-in-Ok-clause-ran g c =
     let text_is = c.deref.ensures.value in
-    session_ran (g.I.Source.left c.args.input.now) (g.I.Source.left c.read_input.new.input) c.in-Ok.bytes.items (g.S.Store.files c.args.store.now)
-    (g.S.Store.files c.run_lines.new.store) (g.K.Sink.written c.args.out.now) (g.K.Sink.written c.run_lines.new.out) c.run_lines.result
-    c.in-Ok.ensures.taken c.in-Ok.ensures.end c.in-Ok.ensures.within (rw text_is at c.run_lines.ensures.runs)
+    session_ran (g.I.Source.left c.args.input.now) (g.I.Source.left c.read_input.new.input) (g.I.Source.left c.run_lines.new.input)
+    c.in-Ok.bytes.items _ _ c.run_lines.result c.in-Ok.ensures.taken c.in-Ok.ensures.end c.in-Ok.ensures.within
+    (rw text_is at c.run_lines.ensures.runs) c.run_lines.ensures.untouched.0
 
 pub returns-in-Ok-clause-read_cause : goal.returns-in-Ok-clause-read_cause
 returns-in-Ok-clause-read_cause g c =
@@ -18,30 +17,12 @@ returns-in-Ok-clause-read_cause g c =
     let untouched = c.run_lines.ensures.untouched.1 in
     record {
       later = omega arith;
-      rose = λ e.
-          absurd (lines_unread (lines_of c.deref.result.now) (g.I.Source.left c.read_input.new.input) (g.S.Store.files c.args.store.now)
-          (g.S.Store.files c.run_lines.new.store) (g.K.Sink.written c.args.out.now) (g.K.Sink.written c.run_lines.new.out) c.run_lines.result
-          c.run_lines.ensures.runs e);
+      rose = λ e. absurd (lines_unread (lines_of c.deref.result.now) (g.I.Source.left c.read_input.new.input) _ _ c.run_lines.result c.run_lines.ensures.runs e);
       told = λ never. untouched ∙ unread;
     }
 
 pub returns-in-Err-TooLong-clause-ran : goal.returns-in-Err-TooLong-clause-ran
 returns-in-Err-TooLong-clause-ran g c =
-    session_long (g.I.Source.left c.args.input.now) (g.I.Source.left c.read_input.new.input) (g.S.Store.files c.args.store.now)
-    (g.K.Sink.written c.args.out.now) (g.K.Sink.written c.refuse.new.out) c.refuse.result c.too_long.result c.in-Err-TooLong.limit 65536
-    (rw c.in-Err-TooLong.field-0-is at c.in-Err-TooLong.ensures.fault) c.too_long.ensures c.refuse.ensures.prints
-
-pub returns-in-Err-TooLong-clause-reads : goal.returns-in-Err-TooLong-clause-reads
-returns-in-Err-TooLong-clause-reads g c =
-    no_lines_read (g.I.Source.left c.args.input.now) (g.S.Store.reads c.args.store.now) (g.S.Store.reads c.args.store.now)
-    (g.S.Store.files c.args.store.now) (g.S.Store.files c.args.store.now) refl refl
-
-pub returns-in-Err-ReadFault-clause-reads : goal.returns-in-Err-ReadFault-clause-reads
-returns-in-Err-ReadFault-clause-reads g c =
-    no_lines_read (g.I.Source.left c.args.input.now) (g.S.Store.reads c.args.store.now) (g.S.Store.reads c.args.store.now)
-    (g.S.Store.files c.args.store.now) (g.S.Store.files c.args.store.now) refl refl
-
-pub returns-in-Err-OutOfMemory-clause-reads : goal.returns-in-Err-OutOfMemory-clause-reads
-returns-in-Err-OutOfMemory-clause-reads g c =
-    no_lines_read (g.I.Source.left c.args.input.now) (g.S.Store.reads c.args.store.now) (g.S.Store.reads c.args.store.now)
-    (g.S.Store.files c.args.store.now) (g.S.Store.files c.args.store.now) refl refl
+    session_long (g.I.Source.left c.args.input.now) (g.I.Source.left c.read_input.new.input) _ _ c.refuse.result c.too_long.result c.in-Err-TooLong.limit 65536
+    (rw c.in-Err-TooLong.field-0-is at c.in-Err-TooLong.ensures.fault) c.too_long.ensures (record { files = refl; reads = refl; steps = refl })
+    c.refuse.ensures.prints

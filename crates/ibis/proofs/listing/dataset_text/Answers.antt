@@ -1,4 +1,4 @@
-use Rattle.std.proofs.Common.{length, ap, ◌∙◌, arith}
+use Rattle.std.proofs.Common.{◌≡◌, ◌<◌, Some, length, ap, ◌∙◌, arith}
 use Rattle.std.proofs.lemmas.Result.{err_from_is_err_and}
 use Rattle.ibis.proofs.ListLemmas.{dataset_done, item_at, part_looks, part_more, part_stops}
 use Rattle.ibis.proofs.listing.dataset_text.Goals as goal

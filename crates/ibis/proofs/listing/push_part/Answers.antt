@@ -1,4 +1,4 @@
-use Rattle.std.proofs.Common.{◌∙◌, arith}
+use Rattle.std.proofs.Common.{◌≡◌, ◌<◌, Some, ◌∙◌, arith}
 use Rattle.std.proofs.lemmas.Result.{err_from_is_err_and}
 use Rattle.ibis.proofs.ListLemmas.{column_looks, column_more, column_stops, item_at}
 use Rattle.ibis.proofs.listing.push_part.Goals as goal

@@ -2,13 +2,14 @@ use Rattle.std.proofs.Common.{◌≡◌, ◌+◌, [], ◌∷◌, ◌++◌, IsOk,
 use Rattle.std.specs.Prelude.{◌⊎◌, slice_get}
 use Rattle.std.proofs.lemmas.Option.{slice_get-get_or}
 use Rattle.std.proofs.lemmas.Result.{err_from_is_err_and}
+use Rattle.fb_outside.proofs.ReadLemmas.{AddsOnly-same}
 use Rattle.wah_iter.specs.Rows.{rows_of}
 use Rattle.wah_logic.specs.Logic.{ones}
 use Rattle.stages.specs.Answer.{is_allowed_on}
 use Rattle.stages.specs.Meaning.{Meaning}
 use Rattle.stages.specs.Second.{candidates_in}
 use Rattle.stages.proofs.ListLemmas.{all_at, err_not_ok}
-use Rattle.stages.proofs.LookLemmas.{adds_done, no_cause}
+use Rattle.stages.proofs.LookLemmas.{adds_done, looks_for_one, no_cause}
 use Rattle.stages.proofs.SecondLemmas.{few_checks, kept_decided, none_decided, one_decided, ones_few, refused_reads, settled_here, stopped}
 use Rattle.stages.proofs.second.decide_all.Goals as goal
 
@@ -18,6 +19,7 @@ loop-place-init g c =
     record {
       unfailed = refl;
       kept = refl;
+      looks = AddsOnly-same _ _ _ refl;
       decided = none_decided (g.C.Conditions.means on (g.S.Store.files c.args.store.now)) (g.C.Conditions.rows on) c.args.unknown.now c.args.atoms.now (g.S.Store.reads c.args.store.now) c.args.steps.now c.new-answers.result.items c.new-answers.ensures.items;
     }
 
@@ -49,6 +51,10 @@ pub returns-in_err-made-clause-whole : goal.returns-in_err-made-clause-whole
 returns-in_err-made-clause-whole g c =
     let exit = err_from_is_err_and c.from_residual.result c.from_residual.ensures.1 in
     rw (exit.1, exit.2) (λ m is. c.in_err-made.ensures.whole m (subst (λ f. g.C.Conditions.means c.args.conditions.now f m) (sym c.loop-place.invariant.kept) is))
+
+pub returns-in_err-made-clause-looks : goal.returns-in_err-made-clause-looks
+returns-in_err-made-clause-looks g c =
+    looks_for_one (g.C.Conditions.is_look c.args.conditions.now) c.args.atoms.now c.loop-place.place c.at.result.now (g.S.Store.reads c.args.store.now) (g.S.Store.reads c.loop-place.store) (g.S.Store.reads c.decide.new.store) c.at.ensures c.loop-place.invariant.looks c.decide.ensures.looks
 
 pub returns-in_err-made-clause-reads : goal.returns-in_err-made-clause-reads
 returns-in_err-made-clause-reads g c m is =
@@ -83,6 +89,10 @@ pub returns-in_err-keep-clause-whole : goal.returns-in_err-keep-clause-whole
 returns-in_err-keep-clause-whole g c =
     let exit = err_from_is_err_and c.from_residual-in_err-keep.result c.from_residual-in_err-keep.ensures.1 in
     rw exit.1 (λ m is. inr (g.met.C.Conditions.memory c.in_err-keep.field-0.0 exit.0 exit.2))
+
+pub returns-in_err-keep-clause-looks : goal.returns-in_err-keep-clause-looks
+returns-in_err-keep-clause-looks g c =
+    looks_for_one (g.C.Conditions.is_look c.args.conditions.now) c.args.atoms.now c.loop-place.place c.at.result.now (g.S.Store.reads c.args.store.now) (g.S.Store.reads c.loop-place.store) (g.S.Store.reads c.decide.new.store) c.at.ensures c.loop-place.invariant.looks c.decide.ensures.looks
 
 pub returns-in_err-keep-clause-reads : goal.returns-in_err-keep-clause-reads
 returns-in_err-keep-clause-reads g c m is =
@@ -140,5 +150,6 @@ loop-place-preserved g c =
     record {
       unfailed = (rw c.in_ok-made.was at c.decide.ensures.cause).told (λ e. e) ∙ before.unfailed;
       kept = c.decide.ensures.files ∙ before.kept;
+      looks = looks_for_one (g.C.Conditions.is_look on) atoms place atom old mid new c.at.ensures before.looks c.decide.ensures.looks;
       decided = kept_decided means rows unknown atoms old c.args.steps.now (place + 1) c.keep.new.list.items (c.loop-place.answers.items ++ made.answers ∷ []) (c.loop-place.checked + made.checked) new now c.in_ok-keep.ensures more;
     }

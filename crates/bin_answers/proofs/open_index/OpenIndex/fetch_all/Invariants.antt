@@ -1,5 +1,6 @@
 use Rattle.std.proofs.Common.{◌≡◌, List, All, length, map, take}
 use Rattle.fb_outside.specs.Files.{SameFiles}
+use Rattle.fb_outside.specs.Reads.{AddsOnly}
 use Rattle.binning.specs.Encodings.{vectors}
 use Rattle.binning.specs.Members.{bitmap}
 use Rattle.binning.specs.declared.gathering.Bin.{Bin}
@@ -12,6 +13,7 @@ invariant-loop-k g l = record {
   kept : SameFiles (g.S.Store.files l.fn.store) (g.S.Store.files l.store);
   sound : AreFaultless (g.S.Store.files l.fn.store) l.self.head (take l.k-index l.numbers);
   reads : Fetches (g.S.Store.files l.fn.store) (g.S.Store.reads l.fn.store) (g.S.Store.reads l.store) l.self.head (take l.k-index l.numbers) (Unit {0});
+  looks : AddsOnly (λ look. look.name ≡ l.self.head.name) (g.S.Store.reads l.fn.store) (g.S.Store.reads l.store);
   count : length l.all.items ≡ l.k-index;
   long : All (λ v. length v ≡ length l.self.mask) l.all.items;
   bitmaps : (bins : List Bin) → HasBins (g.S.Store.files l.fn.store) l.self.head l.self.mask bins

@@ -1,4 +1,4 @@
-use Rattle.std.proofs.Common.{◌≡◌, ◌+◌, ◌<◌, ℕ, All, Bool, List, [], ◌∷◌, append-nil, length, refl, ap, sym, subst, ◌∙◌}
+use Rattle.std.proofs.Common.{◌+◌, ◌<◌, ℕ, All, List, [], ◌∷◌, append-nil, length, refl, ap, sym, subst, ◌∙◌}
 use Rattle.std.proofs.lemmas.Result.{err_from_is_err_and}
 use Rattle.wah_logic.specs.Logic.{groups_and_rest}
 use Rattle.index_spec.specs.Members.{needed}

@@ -1,6 +1,7 @@
-use Rattle.std.proofs.Common.{◌≡◌, ◌+◌, ◌*◌, ◌<◌, ◌≤◌, ℕ, Bool, List, [], ◌∷◌, ◌++◌, All, append-nil, length, take, drop, get_or, refl, ap, sym, subst, ◌∙◌, arith}
+use Rattle.std.proofs.Common.{◌+◌, ◌<◌, ℕ, List, [], ◌∷◌, ◌++◌, append-nil, length, take, drop, get_or, refl, ap, sym, subst, ◌∙◌, arith}
 use Rattle.std.proofs.lemmas.List.{length-append, take_all}
 use Rattle.std.proofs.lemmas.Result.{err_from_is_err_and}
+use Rattle.fb_outside.proofs.ReadLemmas.{AddsOnly-same, AddsOnly-trans}
 use Rattle.wah_logic.specs.Logic.{groups_and_rest}
 use Rattle.binning.specs.declared.against_bins.Three.TheVariants.{Unknown, Yes}
 use Rattle.bin_answers.specs.BinRuns.{is_same, run}
@@ -17,6 +18,7 @@ loop-run-init g c = record {
   kept = refl;
   sound = sound_none _ c.args.self.now.head;
   reads = fetches_none _ _ _ c.args.self.now.head refl;
+  looks = AddsOnly-same _ _ _ refl;
   definite_long = rw c.new.ensures.items (λ k d l. absurd (omega arith));
   unknown_long = rw c.new-2.ensures.items (λ k d l. absurd (omega arith));
   count = let none = ap length c.new.ensures.items in let also = ap length c.new-2.ensures.items in omega (arith, none, also);
@@ -41,6 +43,7 @@ loop-run-preserved g c =
       sound = sound_more _ _ head (needed_by head (take i runs)) (needed_by head (r ∷ [])) (needed_by head (take (i + 1) runs)) c.loop-run.invariant.kept more c.loop-run.invariant.sound c.in_ok-rows.ensures.exact;
       reads = fetches_more _ _ _ _ _ _ _ head (needed_by head (take i runs)) (needed_by head (r ∷ [])) [] (needed_by head (take (i + 1) runs)) c.loop-run.invariant.kept
           (more ∙ ap (λ (ns : List ℕ). needed_by head (take i runs) ++ ns) (sym (append-nil (needed_by head (r ∷ []))))) (λ u. refl) (λ u. refl) c.loop-run.invariant.reads c.in_ok-rows.ensures.reads;
+      looks = AddsOnly-trans _ _ _ _ c.loop-run.invariant.looks c.rows_of.ensures.looks;
       definite_long = long_more rows (is_same Yes r.answer) c.loop-run.found.definite.items _ c.in_ok-rows.rows c.in_ok-add.ensures.definite c.loop-run.invariant.definite_long c.in_ok-rows.ensures.length;
       unknown_long = long_more rows (is_same Unknown r.answer) c.loop-run.found.unknown.items _ c.in_ok-rows.rows c.in_ok-add.ensures.unknown c.loop-run.invariant.unknown_long c.in_ok-rows.ensures.length;
       count = count_more r.answer c.in_ok-rows.rows c.loop-run.found.definite.items c.loop-run.found.unknown.items _ _ i c.in_ok-add.ensures.definite c.in_ok-add.ensures.unknown c.loop-run.invariant.count;
@@ -100,6 +103,9 @@ returns-in_err-rows-clause-exact g c =
     (stop_more _ _ head (needed_by head (take i runs)) (needed_by head (get_or runs i none ∷ [])) (needed_by head (drop (i + 1) runs)) (needed_by head runs) _ c.loop-run.invariant.kept
     (needed_cut head runs i none l) c.loop-run.invariant.sound c.in_err-rows.ensures.exact)
 
+pub returns-in_err-rows-clause-looks : goal.returns-in_err-rows-clause-looks
+returns-in_err-rows-clause-looks g c = AddsOnly-trans _ _ _ _ c.loop-run.invariant.looks c.rows_of.ensures.looks
+
 pub returns-in_err-rows-clause-reads : goal.returns-in_err-rows-clause-reads
 returns-in_err-rows-clause-reads g c =
     let p = err_from_is_err_and c.from_residual.result c.from_residual.ensures.1 in
@@ -125,6 +131,9 @@ pub returns-in_err-add-clause-exact : goal.returns-in_err-add-clause-exact
 returns-in_err-add-clause-exact g c =
     let p = err_from_is_err_and c.from_residual-in_err-add.result c.from_residual-in_err-add.ensures.1 in
     rw p.1 (stop_memory _ c.args.self.now.head (needed_by c.args.self.now.head c.args.runs.now) p.0 p.2)
+
+pub returns-in_err-add-clause-looks : goal.returns-in_err-add-clause-looks
+returns-in_err-add-clause-looks g c = AddsOnly-trans _ _ _ _ c.loop-run.invariant.looks c.rows_of.ensures.looks
 
 pub returns-in_err-add-clause-reads : goal.returns-in_err-add-clause-reads
 returns-in_err-add-clause-reads g c =

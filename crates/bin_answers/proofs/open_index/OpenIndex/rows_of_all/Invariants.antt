@@ -1,5 +1,6 @@
 use Rattle.std.proofs.Common.{◌≡◌, ◌+◌, ◌*◌, ◌≤◌, List, All, length, take}
 use Rattle.fb_outside.specs.Files.{SameFiles}
+use Rattle.fb_outside.specs.Reads.{AddsOnly}
 use Rattle.wah_logic.specs.Logic.{groups_and_rest}
 use Rattle.binning.specs.declared.against_bins.Three.TheVariants.{Unknown, Yes}
 use Rattle.binning.specs.declared.gathering.Bin.{Bin}
@@ -14,6 +15,7 @@ invariant-loop-run g l = record {
   sound : AreFaultless (g.S.Store.files l.fn.store) l.self.head (needed_by l.self.head (take l.run-index l.runs));
   reads : Fetches (g.S.Store.files l.fn.store) (g.S.Store.reads l.fn.store) (g.S.Store.reads l.store) l.self.head
       (needed_by l.self.head (take l.run-index l.runs)) (Unit {0});
+  looks : AddsOnly (λ look. look.name ≡ l.self.head.name) (g.S.Store.reads l.fn.store) (g.S.Store.reads l.store);
   definite_long : All (λ v. length v ≡ length l.self.mask) l.found.definite.items;
   unknown_long : All (λ v. length v ≡ length l.self.mask) l.found.unknown.items;
   count : length l.found.definite.items + length l.found.unknown.items ≤ l.run-index;

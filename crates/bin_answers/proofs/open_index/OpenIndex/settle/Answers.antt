@@ -1,4 +1,4 @@
-use Rattle.std.proofs.Common.{◌≡◌, ◌+◌, ◌*◌, ◌<◌, ◌≤◌, ℕ, List, All, length, refl, ap, sym, subst, ◌∙◌, arith}
+use Rattle.std.proofs.Common.{◌≡◌, ◌<◌, ◌≤◌, ℕ, List, All, length, refl, ap, sym, subst, ◌∙◌}
 use Rattle.std.proofs.lemmas.Result.{err_from_is_err_and}
 use Rattle.wah_logic.specs.Logic.{groups_and_rest, union}
 use Rattle.binning.specs.declared.against_bins.Three.TheVariants.{Unknown, Yes}
@@ -7,10 +7,8 @@ use Rattle.three_valued.specs.Rows.{answers_of}
 use Rattle.index_file.specs.declared.edge.Edge.{Edge}
 use Rattle.bin_answers.specs.BinRuns.{runs_of}
 use Rattle.bin_answers.specs.Bins.{edges_say, rows_of_runs}
-use Rattle.bin_answers.specs.Fetched.{AreFaultless, IsOutside, StopsIn, needed_by, needed_on, runs_on}
+use Rattle.bin_answers.specs.Fetched.{AreFaultless, needed_by, needed_on, runs_on}
 use Rattle.bin_answers.specs.declared.bin_runs.BinRun.{BinRun}
-use Rattle.bin_answers.specs.declared.fault.BinsFault.{BinsFault}
-use Rattle.bin_answers.specs.declared.fault.BinsFault.TheVariants.{OutOfMemory}
 use Rattle.bin_answers.proofs.FetchLemmas.{bins_outside, fetches_less, fetches_yet, stop_memory}
 use Rattle.bin_answers.proofs.IndexLemmas.{found_steps, head_below, head_within, settled_steps, stop_runs}
 use Rattle.bin_answers.proofs.RowLemmas.{answers_long, bins_answer}

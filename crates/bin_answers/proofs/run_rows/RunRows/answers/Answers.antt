@@ -1,4 +1,4 @@
-use Rattle.std.proofs.Common.{◌≡◌, ◌+◌, ◌*◌, ◌<◌, ◌≤◌, ℕ, Bool, true, false, eqb, List, length, map, vec_len, ap, sym, subst, ◌∙◌, arith}
+use Rattle.std.proofs.Common.{◌≡◌, ◌+◌, ◌*◌, ◌≤◌, ℕ, Bool, true, false, eqb, List, length, map, vec_len, ap, sym, subst, ◌∙◌, arith}
 use Rattle.wah_logic.specs.Logic.{groups_and_rest, union}
 use Rattle.bin_answers.proofs.RowLemmas.{known_only, none_there, of_length, some_there, three_parts}
 use Rattle.bin_answers.proofs.run_rows.RunRows.answers.Goals as goal

@@ -1,0 +1,4 @@
+pub mod RanLemmas
+pub mod EndLemmas
+pub mod LoadLemmas
+pub mod HitLemmas

@@ -1,0 +1,67 @@
+-- The load of the records of a seed.
+use Rattle.std.proofs.Common.{◌≡◌, ◌≤◌, ◌<◌, ◌+◌, ◌*◌, ◌⊎◌, inl, inr, ℕ, Bool, true, false, List, [], length, nat_lt, Option, Some, None, refl, sym, ap, subst, ◌∙◌, arith}
+use Rattle.std.proofs.lemmas.Bool.Decides.{nat_tests}
+use Rattle.std.specs.FinMap.{empty, get-empty}
+use Rattle.std.specs.List.{All}
+use Rattle.std.specs.Ordering.{nat_cmp}
+use Rattle.std.specs.Cmp.Lexicographic.{slice_cmp}
+use Rattle.fb_outside.specs.Files.{Files}
+use Rattle.fb_outside.specs.Names.{IsPath}
+use Rattle.fb_outside.specs.Puts.{PutsAll}
+use Rattle.fb_types.specs.Cells.{RecordFits}
+use Rattle.fb_types.specs.Schemas.{IsSchema}
+use Rattle.fb_types.specs.declared.cells.Cell.{Cell}
+use Rattle.generator.specs.Generated.{generated, generated_columns}
+use Rattle.generator.proofs.GeneratedLemmas.{generated-length}
+use Rattle.part_meta.specs.declared.catalog.Catalog.{Catalog}
+use Rattle.world.specs.World.{World, content_at, no_datasets}
+use Rattle.world.specs.Stands.{Stands, StandsFor}
+use Rattle.world.specs.Effects.{part_count}
+use Rattle.world.proofs.PieceLemmas.{part-begins}
+use Rattle.dataset.specs.Appended.{append_files, refusal}
+use Rattle.dataset.specs.Loads.{IsLoad, catalog_before, load_files}
+use Rattle.dataset.proofs.LoadLemmas.{StandsFor-loaded, catalog_before-absent, refusal-none}
+use Rattle.gen_run.specs.Made.{made_world, rows_of_part, table_path}
+
+-- the catalog of a dataset that is made
+abbrev pub new_catalog : Catalog
+new_catalog = record { schema = generated_columns; next = 0; parts = [] }
+
+few_parts : (rows : ℕ) → rows ≤ 1000000 → part_count rows_of_part rows ≤ 4
+few_parts rows few = by (nat_lt 4 (part_count rows_of_part rows)) refl
+  where
+    by : (more : Bool) → nat_lt 4 (part_count rows_of_part rows) ≡ more → part_count rows_of_part rows ≤ 4
+    by false h = grind (arith, nat_tests)
+    by true h =
+        let fifth : 4 < part_count rows_of_part rows = grind (arith, nat_tests) in
+        let begins : 4 * rows_of_part < rows = part-begins rows_of_part rows 4 (omega arith) fifth in
+        absurd (omega (arith, begins, few))
+
+-- the records of a seed are few enough
+pub taken : (rows seed : ℕ) → rows ≤ 1000000 → refusal new_catalog generated_columns rows_of_part (length (generated rows seed)) ≡ None
+taken rows seed few =
+    let parts : part_count rows_of_part (length (generated rows seed)) ≤ 4 =
+    few_parts (length (generated rows seed)) (subst (λ (n : ℕ). n ≤ 1000000) (sym (generated-length rows seed)) few) in
+    (refusal-none new_catalog generated_columns rows_of_part (length (generated rows seed))).1 (refl, omega (arith, parts), omega (arith, parts))
+
+before_is : catalog_before (no_datasets empty) table_path generated_columns ≡ new_catalog
+before_is = catalog_before-absent (no_datasets empty) table_path generated_columns (get-empty (slice_cmp nat_cmp) table_path)
+
+-- once its files are put, they stand for the world that has the table alone
+pub stands_made : (rows seed : ℕ) (new : Files) → rows ≤ 1000000 → Stands empty (no_datasets empty) → IsPath table_path → IsSchema generated_columns
+    → All (λ cells. RecordFits cells generated_columns) (generated rows seed)
+    → PutsAll (append_files table_path new_catalog rows_of_part (generated rows seed)) (Some empty) (Some new)
+    → Stands new (made_world rows seed)
+stands_made rows seed new few none path schema fit put =
+    let load : IsLoad (no_datasets empty) table_path generated_columns rows_of_part (generated rows seed) =
+    record {
+      proper = path;
+      valid = schema;
+      some = omega arith;
+      few = omega arith;
+      fit = fit;
+      accepted =
+          subst (λ (c : Catalog). refusal c generated_columns rows_of_part (length (generated rows seed)) ≡ None) (sym before_is) (taken rows seed few);
+    } in
+    StandsFor-loaded (Some empty) (Some new) (no_datasets empty) table_path generated_columns rows_of_part (generated rows seed) load none
+    (subst (λ (c : Catalog). PutsAll (append_files table_path c rows_of_part (generated rows seed)) (Some empty) (Some new)) (sym before_is) put)

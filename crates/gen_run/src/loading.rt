@@ -1,0 +1,58 @@
+//! The table that is made.
+
+ghost use Rattle.std.specs.Prelude.{◌≡◌, ◌≤◌, IfOk};
+ghost use Rattle.fb_outside.specs.Names.{IsPath};
+ghost use Rattle.world.specs.Stands.{Stands};
+ghost use Rattle.gen_run.specs.Made.{made_world, table_path};
+
+use crate::own::OwnStore;
+use dataset::{AppendFault, append, create};
+use fb_outside::FileName;
+use generator::generate;
+use std::alloc::{AllocError, Global};
+use std::sync::ledger::Ledger;
+use steps::Steps;
+
+const ROWS_OF_PART: u32 = 250_000;
+
+/// The path of the table.
+#[tactic(auto, unfolding(crate::specs::Made::table_path))]
+pub(crate) fn table_path(alloc: Global) -> Result<FileName, AllocError>
+    ensures path { IfOk result (λ path. path ≡ table_path) }
+    ensures valid { IsPath table_path }
+{
+    match FileName::from_str(alloc, "D")? {
+        Some(path) => Ok(path),
+        None => unreachable!(),
+    }
+}
+
+/// A store that has the table of so many records from a seed, and nothing else.
+pub(crate) fn loaded<L: Ledger>(
+    alloc: Global,
+    rows: u32,
+    seed: u64,
+    steps: &mut Steps<L>,
+) -> Result<OwnStore, AllocError>
+    requires some { 1 ≤ rows }
+    requires few { rows ≤ 1000000 }
+    ensures { IfOk result (λ store. Stands store (made_world rows seed)) }
+{
+    let columns = generate(alloc, rows, seed)?;
+    let schema = columns.schema().copy(alloc)?;
+    let path = table_path(alloc)?;
+    let mut dataset = create(alloc, path, schema);
+    let mut store = OwnStore::make(alloc)?;
+    match append(
+        alloc,
+        &mut store,
+        &mut dataset,
+        &columns,
+        ROWS_OF_PART,
+        steps,
+    ) {
+        Ok(_) => Ok(store),
+        Err(AppendFault::OutOfMemory) => Err(AllocError),
+        Err(_) => unreachable!(),
+    }
+}

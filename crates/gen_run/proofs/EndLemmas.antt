@@ -16,7 +16,6 @@ use Rattle.statuses.specs.Outcome.{Outcome}
 use Rattle.commands.specs.Command.{Command, command_outcome}
 use Rattle.commands.specs.Effects.{LeavesAfter}
 use Rattle.commands.specs.Reply.{Replies, RepliesBy, is_fault}
-use Rattle.commands.specs.Runs.{Prints}
 use Rattle.gen_run.specs.Made.{effects_of, gen_outcome, texts_of}
 use Rattle.gen_run.specs.Ran.{IsGenEnd, PrintsBy, Ran, RanIn, StandsBy, ending_of, status_of}
 
@@ -129,11 +128,3 @@ status_cause before now result h = record {
 -- a call whose objects never fail has no such cause
 pub never : (failed : Type 0) → HasCause 0 0 failed → failed → ⊥
 never failed h e = let rose = h.rose e in omega (arith, rose)
-
--- ---- the line of the load
-
-pub prints_end : (text : List ℕ) (before now : Option (List ℕ)) (status : Status) → Prints Done text before now status → PrintsBy text before now (ending_of status)
-prints_end text before now status (inl (is, grows)) = subst (λ (s : Status). PrintsBy text before now (ending_of s)) (sym is) grows
-prints_end text before now status (inr (inl (is, part))) = subst (λ (s : Status). PrintsBy text before now (ending_of s)) (sym is) part
-prints_end text before now status (inr (inr (is, same))) =
-    subst (λ (s : Status). PrintsBy text before now (ending_of s)) (sym is) (GrowsInPart-none before now text same)

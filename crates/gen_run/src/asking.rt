@@ -2,6 +2,7 @@
 
 ghost use Rattle.std.specs.Prelude.{◌≡◌, ◌∷◌, [], IfOk, IsErrOf, IsUtf8};
 ghost use Rattle.fb_outside.specs.Causes.{HasCause};
+ghost use Rattle.fb_outside.specs.Memory.{files_of};
 ghost use Rattle.command_words.specs.Valid.{IsValidTask};
 ghost use Rattle.commands.specs.Command.{command_of_task};
 ghost use Rattle.gen_run.specs.Made.{asked_by, asked_of, made_commands, table_path};
@@ -26,7 +27,8 @@ pub(crate) fn ask_all<K: Sink, L: Ledger>(
     out: &mut K,
     steps: &mut Steps<L>,
 ) -> Result<(), Trouble>
-    ensures ran { Ran made_commands store.old store.new (K.written out.old) (K.written out.new) result }
+    ensures ran { Ran made_commands (files_of store.old) (files_of store.new)
+        (K.written out.old) (K.written out.new) result }
     ensures cause { HasCause (K.faults out.old) (K.faults out.new) (IsErrOf result Trouble.Failed) }
 {
     let none = "<binning none/><encoding equality/>";
@@ -48,7 +50,8 @@ fn build_and_ask<K: Sink, L: Ledger>(
     out: &mut K,
     steps: &mut Steps<L>,
 ) -> Result<(), Trouble>
-    ensures ran { Ran (asked_of spec.now) store.old store.new (K.written out.old) (K.written out.new) result }
+    ensures ran { Ran (asked_of spec.now) (files_of store.old) (files_of store.new)
+        (K.written out.old) (K.written out.new) result }
     ensures cause { HasCause (K.faults out.old) (K.faults out.new) (IsErrOf result Trouble.Failed) }
 {
     let build = Task::Build {
@@ -70,7 +73,8 @@ fn ask<K: Sink, L: Ledger>(
     out: &mut K,
     steps: &mut Steps<L>,
 ) -> Result<(), Trouble>
-    ensures ran { Ran (asked_by query.now) store.old store.new (K.written out.old) (K.written out.new) result }
+    ensures ran { Ran (asked_by query.now) (files_of store.old) (files_of store.new)
+        (K.written out.old) (K.written out.new) result }
     ensures cause { HasCause (K.faults out.old) (K.faults out.new) (IsErrOf result Trouble.Failed) }
 {
     let estimate = Task::Estimate {
@@ -100,7 +104,8 @@ fn run_task<K: Sink, L: Ledger>(
     steps: &mut Steps<L>,
 ) -> Result<(), Trouble>
     requires valid { IsValidTask task }
-    ensures ran { Ran (command_of_task table_path task ∷ []) store.old store.new (K.written out.old) (K.written out.new) result }
+    ensures ran { Ran (command_of_task table_path task ∷ []) (files_of store.old) (files_of store.new)
+        (K.written out.old) (K.written out.new) result }
     ensures cause { HasCause (K.faults out.old) (K.faults out.new) (IsErrOf result Trouble.Failed) }
 {
     let dir = table_path(alloc)?;

@@ -19,9 +19,8 @@ ghost use Rattle.gen_run.specs.Made.{gen_outcome};
 ghost use Rattle.gen_run.specs.Ran.{IsGenEnd, PrintsBy};
 
 use crate::asking::ask_all;
-use crate::ending::{ending_of, status_of};
-use crate::loading::loaded;
-use commands::print_loaded;
+use crate::ending::status_of;
+use crate::loading::{loaded, print_loaded};
 use fb_outside::{Sink, Trouble};
 pub use laws::{the_commands_of_tables, the_hits_of_tables};
 use statuses::Status;
@@ -62,6 +61,6 @@ fn make_and_ask<K: Sink, L: Ledger>(
     ensures print_cause { HasCause (K.faults out.old) (K.faults out.new) (IsErrOf result Trouble.Failed) }
 {
     let mut store = loaded(alloc, rows, seed, steps)?;
-    ending_of(print_loaded(alloc, out, u64::from(rows)))?;
+    print_loaded(alloc, out, rows)?;
     ask_all(alloc, &mut store, out, steps)
 }

@@ -1,13 +1,17 @@
-//! The table that is made.
+//! The table that is made, and the line that tells it.
 
-ghost use Rattle.std.specs.Prelude.{◌≡◌, ◌≤◌, IfOk};
+ghost use Rattle.std.specs.Prelude.{◌≡◌, ◌≤◌, IfOk, IsErrOf, string_bytes};
+ghost use Rattle.fb_outside.specs.Causes.{HasCause};
+ghost use Rattle.fb_outside.specs.Memory.{files_of};
 ghost use Rattle.fb_outside.specs.Names.{IsPath};
 ghost use Rattle.world.specs.Stands.{Stands};
+ghost use Rattle.ardea.specs.Load.{loaded_line};
 ghost use Rattle.gen_run.specs.Made.{made_world, table_path};
+ghost use Rattle.gen_run.specs.Ran.{PrintsBy};
 
 use crate::own::OwnStore;
 use dataset::{AppendFault, append, create};
-use fb_outside::FileName;
+use fb_outside::{FileName, Sink, Trouble};
 use generator::generate;
 use std::alloc::{AllocError, Global};
 use std::sync::ledger::Ledger;
@@ -36,7 +40,7 @@ pub(crate) fn loaded<L: Ledger>(
 ) -> Result<OwnStore, AllocError>
     requires some { 1 ≤ rows }
     requires few { rows ≤ 1000000 }
-    ensures { IfOk result (λ store. Stands store (made_world rows seed)) }
+    ensures { IfOk result (λ store. Stands (files_of store) (made_world rows seed)) }
 {
     let columns = generate(alloc, rows, seed)?;
     let schema = columns.schema().copy(alloc)?;
@@ -55,4 +59,20 @@ pub(crate) fn loaded<L: Ledger>(
         Err(AppendFault::OutOfMemory) => Err(AllocError),
         Err(_) => unreachable!(),
     }
+}
+
+/// Prints how many records were loaded.
+pub(crate) fn print_loaded<K: Sink>(alloc: Global, out: &mut K, rows: u32) -> Result<(), Trouble>
+    ensures prints { PrintsBy (loaded_line rows) (K.written out.old) (K.written out.new) result }
+    ensures cause { HasCause (K.faults out.old) (K.faults out.new) (IsErrOf result Trouble.Failed) }
+{
+    let line = loaded_text(alloc, rows)?;
+    out.put(line.as_bytes())
+}
+
+#[tactic(auto, unfolding(ardea::specs::Load::loaded_line))]
+fn loaded_text(alloc: Global, rows: u32) -> Result<String, AllocError>
+    ensures { IfOk result (λ line. string_bytes line ≡ loaded_line rows) }
+{
+    format!(in alloc; "loaded {rows} rows\n")
 }

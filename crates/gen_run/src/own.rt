@@ -7,7 +7,7 @@ use fb_outside::{Failed, MemStore, Source, Store, Trouble};
 use std::alloc::{AllocError, Global};
 use std::marker::Model;
 
-/// A store in memory of which no call fails. Contracts see it as its files.
+/// A store in memory of which no call fails. Contracts see it as the store in memory.
 #[derive(Drop)]
 pub(crate) struct OwnStore {
     store: MemStore,
@@ -15,20 +15,21 @@ pub(crate) struct OwnStore {
 
 impl Model for OwnStore {
     ghost use Rattle.std.specs.Prelude.{◌≡◌, []};
-    ghost use Rattle.fb_outside.specs.Files.{Files};
-    ghost use Rattle.fb_outside.specs.Memory.{files_of};
+    ghost use Rattle.fb_outside.specs.Memory.{StoreState};
 
-    ghost Value = { Files };
+    ghost Value = { StoreState };
 
-    ghost view = { λ s. files_of s.store };
+    ghost view = { λ s. s.store };
 
     ghost invariant = { λ s. s.store.counted.fails ≡ [] };
 }
 
 impl OwnStore {
+    ghost use Rattle.fb_outside.specs.Memory.{files_of};
+
     /// A store without files.
     pub(crate) fn make(alloc: Global) -> Result<OwnStore, AllocError>
-        ensures { IfOk result (λ store. store ≡ empty) }
+        ensures { IfOk result (λ store. files_of store ≡ empty) }
     {
         let store = MemStore::make(alloc, &[], 0)?;
         Ok(OwnStore { store })
@@ -37,10 +38,11 @@ impl OwnStore {
 
 impl Store for OwnStore {
     ghost use Rattle.std.specs.Prelude.{Some, None};
+    ghost use Rattle.fb_outside.specs.Memory.{files_of};
 
     ghost faults = { λ _. 0 };
 
-    ghost files = { λ s. Some s };
+    ghost files = { λ s. Some (files_of s) };
 
     ghost reads = { λ _. None };
 

@@ -16,6 +16,7 @@ use generator::generate;
 use std::alloc::{AllocError, Global};
 use std::sync::ledger::Ledger;
 use steps::Steps;
+use world::files_without_datasets;
 
 const ROWS_OF_PART: u32 = 250_000;
 
@@ -44,9 +45,9 @@ pub(crate) fn loaded<L: Ledger>(
 {
     let columns = generate(alloc, rows, seed)?;
     let schema = columns.schema().copy(alloc)?;
-    let path = table_path(alloc)?;
-    let mut dataset = create(alloc, path, schema);
+    let mut dataset = create(alloc, table_path(alloc)?, schema);
     let mut store = OwnStore::make(alloc)?;
+    files_without_datasets();
     match append(
         alloc,
         &mut store,
@@ -56,8 +57,11 @@ pub(crate) fn loaded<L: Ledger>(
         steps,
     ) {
         Ok(_) => Ok(store),
-        Err(AppendFault::OutOfMemory) => Err(AllocError),
-        Err(_) => unreachable!(),
+        Err(fault) => {
+            // The load is taken, and the store doesn't fail.
+            prove!(matches!(&fault, AppendFault::OutOfMemory));
+            Err(AllocError)
+        }
     }
 }
 

@@ -6,3 +6,4 @@ pub mod WalkLemmas
 pub mod ChoosingLemmas
 pub mod BoundingLemmas
 pub mod LawLemmas
+pub mod SelectLemmas

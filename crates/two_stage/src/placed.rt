@@ -148,11 +148,7 @@ impl<'a> PlacedColumn<'a> {
     }
 
     /// The words of a category.
-    pub fn words<S: Store>(
-        &self,
-        alloc: Global,
-        store: &mut S,
-    ) -> Result<Dictionary, EvalFault>
+    pub fn words<S: Store>(&self, alloc: Global, store: &mut S) -> Result<Dictionary, EvalFault>
         requires { self.now.column.ty ≡ Category }
         ensures cause { HasCause (S.faults store.old) (S.faults store.new) (IsRefused result IsOfStore) }
         ensures files { SameFiles (S.files store.old) (S.files store.new) }
@@ -172,11 +168,7 @@ impl<'a> PlacedColumn<'a> {
     }
 
     /// The column of numbers or codes, whose values can be read.
-    pub fn numbers<S: Store>(
-        &self,
-        alloc: Global,
-        store: &mut S,
-    ) -> Result<ColumnRef, EvalFault>
+    pub fn numbers<S: Store>(&self, alloc: Global, store: &mut S) -> Result<ColumnRef, EvalFault>
         requires { IsSome (width_of self.now.column.ty) }
         ensures cause { HasCause (S.faults store.old) (S.faults store.new) (IsRefused result IsOfStore) }
         ensures files { SameFiles (S.files store.old) (S.files store.new) }

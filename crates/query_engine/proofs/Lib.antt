@@ -6,4 +6,3 @@ pub mod WalkLemmas
 pub mod ChoosingLemmas
 pub mod BoundingLemmas
 pub mod LawLemmas
-pub mod SelectLemmas

@@ -5,7 +5,6 @@
 #![tactic(auto)]
 
 mod bounding;
-mod cells;
 mod choosing;
 mod damage;
 mod fault;
@@ -13,24 +12,15 @@ mod findings;
 mod in_part;
 mod laws;
 mod listed;
-mod part_rows;
-mod present;
-mod row_blocks;
-mod select_laws;
-mod selected;
 
 pub use bounding::bounds;
 pub use choosing::{Chosen, choose};
+pub use damage::ask_fault;
 pub use fault::AskFault;
 pub use laws::{
     estimates_enclose_hits, the_damage_of_columns, the_hits_of_clauses, the_parts_of_a_world,
 };
-pub use row_blocks::RowBlocks;
-pub use select_laws::the_rows_of_blocks;
-pub use selected::{SelectedPart, open_selected};
 
-#[cfg(test)]
-mod row_tests;
 #[cfg(test)]
 mod sample_files;
 #[cfg(test)]

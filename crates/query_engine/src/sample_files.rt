@@ -72,27 +72,3 @@ pub(crate) const WORDS: &[File] = &[
         b"\x00\x00\x00\x00\x00\x00\x00\x00\x05\x00\x00\x00\x00\x00\x00\x00\x05\x00\x00\x00\x00\x00\x00\x00\x09\x00\x00\x00\x00\x00\x00\x00\x0c\x00\x00\x00\x00\x00\x00\x00\x0f\x00\x00\x00\x00\x00\x00\x00",
     ),
 ];
-
-/// Two parts of 5,000 and of 3,000 small numbers, without the files of these.
-pub(crate) const DIGITS: &[File] = &[
-    (
-        "B/-catalog.txt",
-        b"fastbit catalog 1\nschema b:byte\nnext 2\npart 0\npart 1\n",
-    ),
-    (
-        "B/p0000/-part.txt",
-        b"BEGIN HEADER\nName = p0000\nNumber_of_rows = 5000\nNumber_of_columns = 1\nEND HEADER\nBegin Column\nname = b\ndata_type = byte\nEnd Column\n",
-    ),
-    (
-        "B/p0000/b.msk",
-        b"\x88\x13\x00\x00\x01\x00\x00\x00\xa1\x00\x00\xc0\xff\x01\x00\x00",
-    ),
-    (
-        "B/p0001/-part.txt",
-        b"BEGIN HEADER\nName = p0001\nNumber_of_rows = 3000\nNumber_of_columns = 1\nEND HEADER\nBegin Column\nname = b\ndata_type = byte\nEnd Column\n",
-    ),
-    (
-        "B/p0001/b.msk",
-        b"\xb8\x0b\x00\x00\x01\x00\x00\x00\x60\x00\x00\xc0\xff\xff\xff\x00",
-    ),
-];

@@ -20,9 +20,9 @@ use where_plan::{Plan, resolve};
 type Numbers = (u64, u64, u64, u64);
 
 /// The kind of a damage, what had to be there, and what is.
-pub(crate) type Damage = (DamageKind, u64, u64);
+type Damage = (DamageKind, u64, u64);
 
-pub(crate) fn named<R: Abort + AllocGlobal>(rt: &R, text: &str) -> FileName {
+fn named<R: Abort + AllocGlobal>(rt: &R, text: &str) -> FileName {
     match FileName::from_str(rt.alloc(), text) {
         Ok(Some(name)) => name,
         _ => rt.panic("no name"),
@@ -39,7 +39,7 @@ fn path<R: Abort + AllocGlobal>(rt: &R, text: &str) -> FileName
 
 /// A store of these files, but for that of one name, and then of those, whose calls with these numbers fail once the files are
 /// put.
-pub(crate) fn store<R: Abort + AllocGlobal>(
+fn store<R: Abort + AllocGlobal>(
     rt: &R,
     files: &[File],
     without: &str,
@@ -62,7 +62,7 @@ fn put_all<R: Abort + AllocGlobal>(rt: &R, store: &mut MemStore, files: &[File],
     }
 }
 
-pub(crate) fn dataset_at<R: Abort + AllocGlobal>(rt: &R, store: &mut MemStore, dir: &str) -> Dataset
+fn dataset_at<R: Abort + AllocGlobal>(rt: &R, store: &mut MemStore, dir: &str) -> Dataset
     ensures { IsDataset result }
 {
     match open_dataset(rt.alloc(), store, &path(rt, dir)) {
@@ -71,7 +71,7 @@ pub(crate) fn dataset_at<R: Abort + AllocGlobal>(rt: &R, store: &mut MemStore, d
     }
 }
 
-pub(crate) fn planned<R: Abort + AllocGlobal>(rt: &R, dataset: &Dataset, text: &str) -> Plan
+fn planned<R: Abort + AllocGlobal>(rt: &R, dataset: &Dataset, text: &str) -> Plan
     ensures { FitsSchema dataset.now.schema result }
 {
     let Ok(clause) = parse_where(rt.alloc(), text) else {

@@ -10,15 +10,20 @@ ghost use Rattle.candidates.specs.Reads.{AddsAll};
 ghost use Rattle.world.specs.World.{Partition};
 ghost use Rattle.query_engine.specs.Damage.{IfDamaged, NoDamage};
 ghost use Rattle.query_engine.specs.Parts.{AreParts};
-ghost use Rattle.query_engine.specs.Selected.{AreForParts, AreOpenIn, FitsItem, IsRunLookOver, IsSelectedDamaged, first_runs, later_runs, looks_over, rows_of_runs, runs_over, selected_over, words_over};
+ghost use Rattle.selected_cells.specs.Damages.{IsSelectedDamaged};
+ghost use Rattle.selected_cells.specs.Items.{FitsItem};
+ghost use Rattle.selected_cells.specs.Opened.{AreForParts, AreOpenIn};
+ghost use Rattle.selected_cells.specs.Reads.{IsRunLookOver, looks_over};
+ghost use Rattle.selected_cells.specs.Runs.{first_runs, later_runs, rows_of_runs, runs_over, selected_over};
+ghost use Rattle.selected_cells.specs.Walks.{words_over};
 
-use crate::fault::AskFault;
 use crate::part_rows::PartRows;
 use crate::selected::SelectedPart;
 use column_file::MAX_ROWS_READ;
 use dataset::Dataset;
 use fb_outside::Store;
 use fb_types::Cell;
+use query_engine::AskFault;
 use query_grammar::PickItem;
 use sqlite_items::Items;
 use std::alloc::{AllocError, Global};
@@ -49,7 +54,10 @@ impl<'a> Model for RowBlocks<'a> {
     ghost use Rattle.std.specs.Prelude.{◌≡◌, ◌+◌, ◌≤◌, ◌++◌, drop, length};
     ghost use Rattle.std.specs.List.{AllByRecursion};
     ghost use Rattle.dataset.specs.Opened.{IsDataset};
-    ghost use Rattle.query_engine.specs.Selected.{AreForParts, BlocksLeft, FitsItem, IsWalkOf, first_runs, runs_left, runs_over, words_left, words_over};
+    ghost use Rattle.selected_cells.specs.Items.{FitsItem};
+    ghost use Rattle.selected_cells.specs.Opened.{AreForParts};
+    ghost use Rattle.selected_cells.specs.Runs.{first_runs, runs_over};
+    ghost use Rattle.selected_cells.specs.Walks.{BlocksLeft, IsWalkOf, runs_left, words_left, words_over};
 
     ghost Value = { BlocksLeft };
 

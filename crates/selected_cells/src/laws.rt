@@ -3,7 +3,7 @@
 ghost use Rattle.std.specs.Prelude.{◌≡◌, ◌++◌, ℕ, List};
 ghost use Rattle.query_grammar.specs.declared.picking.PickItem.{PickItem};
 ghost use Rattle.world.specs.World.{Partition};
-ghost use Rattle.query_engine.specs.Selected.{PartRun, first_runs, later_runs, selected_over};
+ghost use Rattle.selected_cells.specs.Runs.{PartRun, first_runs, later_runs, selected_over};
 
 /// The selected cells of the first rows of runs, and then those of the rows behind them, are those of all.
 pub fn the_rows_of_blocks()

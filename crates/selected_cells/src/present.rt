@@ -2,7 +2,7 @@
 
 ghost use Rattle.std.specs.Prelude.{◌≡◌, ◌+◌, ◌≤◌, ℕ, Bool, List, false, get_or};
 ghost use Rattle.wah_words.specs.Spelling.{words_of};
-ghost use Rattle.query_engine.specs.Present.{TellsFrom};
+ghost use Rattle.selected_cells.specs.Present.{TellsFrom};
 
 use std::marker::Model;
 use std::sync::ledger::Ledger;

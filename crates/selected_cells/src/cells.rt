@@ -16,8 +16,10 @@ ghost use Rattle.stages.specs.Faults.{IsRefused};
 ghost use Rattle.part_meaning.specs.Columns.{PartColumn};
 ghost use Rattle.two_stage.specs.Faults.{IsOfStore, IsOutside, StopsAt};
 ghost use Rattle.two_stage.specs.Placed.{Placed};
-ghost use Rattle.query_engine.specs.Present.{TellsFrom};
-ghost use Rattle.query_engine.specs.Selected.{HasCells, HasWidth, IsColumnOf, cells_between, look_if, look_of, mask_of, present_cells, put_last, rows_in, rows_items, word_cell};
+ghost use Rattle.selected_cells.specs.Present.{TellsFrom};
+ghost use Rattle.selected_cells.specs.Cells.{HasCells, cells_between, present_cells, put_last, rows_items, word_cell};
+ghost use Rattle.selected_cells.specs.Opened.{HasWidth, IsColumnOf, mask_of, rows_in};
+ghost use Rattle.selected_cells.specs.Reads.{look_if, look_of};
 
 use crate::present::Present;
 use crate::selected::SelectedColumn;

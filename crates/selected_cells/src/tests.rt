@@ -1,13 +1,14 @@
 ghost use Rattle.std.specs.Prelude.{◌≡◌, ◌<◌};
+ghost use Rattle.fb_outside.specs.Names.{IsPath};
 ghost use Rattle.dataset.specs.Opened.{IsDataset};
 ghost use Rattle.where_plan.specs.Plans.{FitsSchema};
 
 use crate::sample_files::{DIGITS, File, NUMBERS, WORDS};
-use crate::tests::{Damage, dataset_at, named, planned, store};
-use crate::{AskFault, RowBlocks, choose, open_selected};
-use dataset::{DamageKind, Dataset};
-use fb_outside::{FailAt, MemStore, Store};
+use crate::{RowBlocks, open_selected};
+use dataset::{DamageKind, Dataset, open_dataset};
+use fb_outside::{FailAt, FileName, MemStore, Store};
 use fb_types::Cell;
+use query_engine::{AskFault, choose};
 use query_grammar::PickItem;
 use sqlite_items::Items;
 use std::alloc::{AllocError, Global};
@@ -16,13 +17,71 @@ use std::process::Abort;
 use std::sync::ledger::Ledger;
 use std::test::Fail;
 use steps::{Blank, Count, Steps};
-use where_plan::Plan;
+use where_grammar::parse_where;
+use where_plan::{Plan, resolve};
 
 /// The text of the blocks of an answer, and how many rows each has.
 type Blocks = (Vec<u8>, Vec<usize>);
 
 /// A read: where it began, and how many bytes it had room for.
 type Read = (u64, u64);
+
+/// The kind of a damage, what had to be there, and what is.
+type Damage = (DamageKind, u64, u64);
+
+fn named<R: Abort + AllocGlobal>(rt: &R, text: &str) -> FileName {
+    match FileName::from_str(rt.alloc(), text) {
+        Ok(Some(name)) => name,
+        _ => rt.panic("no name"),
+    }
+}
+
+fn path<R: Abort + AllocGlobal>(rt: &R, text: &str) -> FileName
+    ensures { IsPath result }
+{
+    let name = named(rt, text);
+    assert!(rt; name.is_path());
+    name
+}
+
+/// A store of these files, but for that of one name, whose calls with these numbers fail once the files are put.
+fn store<R: Abort + AllocGlobal>(
+    rt: &R,
+    files: &[File],
+    without: &str,
+    fails: &[FailAt],
+) -> MemStore {
+    let Ok(mut store) = MemStore::make(rt.alloc(), fails, 99) else {
+        rt.panic("out of memory")
+    };
+    for (name, bytes) in files {
+        if *name != without {
+            assert!(rt; store.put(named(rt, name).as_str(), bytes).is_ok());
+        }
+    }
+    store
+}
+
+fn dataset_at<R: Abort + AllocGlobal>(rt: &R, store: &mut MemStore, dir: &str) -> Dataset
+    ensures { IsDataset result }
+{
+    match open_dataset(rt.alloc(), store, &path(rt, dir)) {
+        Ok(dataset) => dataset,
+        Err(_) => rt.panic("no dataset"),
+    }
+}
+
+fn planned<R: Abort + AllocGlobal>(rt: &R, dataset: &Dataset, text: &str) -> Plan
+    ensures { FitsSchema dataset.now.schema result }
+{
+    let Ok(clause) = parse_where(rt.alloc(), text) else {
+        rt.panic("no clause")
+    };
+    match resolve(rt.alloc(), Some(&clause), &dataset.schema) {
+        Ok(plan) => plan,
+        Err(_) => rt.panic("no plan"),
+    }
+}
 
 /// Puts a cell as text behind the bytes: `-` where it is null.
 fn put_cell(alloc: Global, text: &mut Vec<u8>, cell: &Cell) -> Result<(), AllocError> {
@@ -148,7 +207,7 @@ fn selected_cells_stand_in_order(rt: HostRuntime) -> Result<(), Fail> {
         ),
     ];
     for (files, dir, text, items, want) in cases {
-        let mut store = store(&rt, files, "", &[], &[]);
+        let mut store = store(&rt, files, "", &[]);
         match selected(&rt, &mut store, dir, text, items) {
             Ok((have, _)) => assert!(rt; have.as_slice() == want),
             Err(_) => rt.panic("no answer"),
@@ -181,12 +240,12 @@ fn are_reads<R: Abort + AllocGlobal>(rt: &R, store: &MemStore, name: &str, want:
 #[test]
 fn chosen_rows_alone_are_read(rt: HostRuntime) -> Result<(), Fail> {
     let items = [PickItem::Plain(0), PickItem::Sum(0)];
-    let mut first = store(&rt, NUMBERS, "", &[], &[]);
+    let mut first = store(&rt, NUMBERS, "", &[]);
     assert!(rt; selected(&rt, &mut first, "D", "3 < a < 9", &items).is_ok());
     are_reads(&rt, &first, "D/p0000/a", &[(28, 12), (12, 20)]);
     are_reads(&rt, &first, "D/p0002/a", &[(0, 4), (8, 4), (8, 4)]);
     let items = [PickItem::Plain(1), PickItem::Plain(0), PickItem::Plain(1)];
-    let mut second = store(&rt, WORDS, "", &[], &[]);
+    let mut second = store(&rt, WORDS, "", &[]);
     assert!(rt; selected(&rt, &mut second, "W", "c in ('yy', 'z')", &items).is_ok());
     are_reads(&rt, &second, "W/p0000/t", &[(5, 4), (12, 3)]);
     are_reads(&rt, &second, "W/p0000/c.dic", &[(0, 14), (0, 14)]);
@@ -200,7 +259,7 @@ fn blocks_are_full(rt: HostRuntime) -> Result<(), Fail> {
     for row in 0..5000 {
         assert!(rt; values.push((row % 10) as u8).is_ok());
     }
-    let mut store = store(&rt, DIGITS, "", &[], &[]);
+    let mut store = store(&rt, DIGITS, "", &[]);
     assert!(rt; store.put(named(&rt, "B/p0000/b").as_str(), &values).is_ok());
     assert!(rt;
         store
@@ -227,7 +286,7 @@ fn blocks_are_full(rt: HostRuntime) -> Result<(), Fail> {
 /// Where fewer rows are wanted no more are read.
 #[test]
 fn reading_ends_early(rt: HostRuntime) -> Result<(), Fail> {
-    let mut store = store(&rt, NUMBERS, "", &[], &[]);
+    let mut store = store(&rt, NUMBERS, "", &[]);
     match first_selected(&rt, &mut store, "D", "3 < a < 9", &[PickItem::Plain(0)], 4) {
         Ok((text, _)) => assert!(rt; text.as_slice() == b"4 \n5 \n6 \n7 \n".as_slice()),
         Err(_) => rt.panic("no answer"),
@@ -274,7 +333,7 @@ fn damaged_columns_are_named(rt: HostRuntime) -> Result<(), Fail> {
         ),
     ];
     for (text, item, file, bytes, want) in cases {
-        let mut store = store(&rt, WORDS, file, &[], &[]);
+        let mut store = store(&rt, WORDS, file, &[]);
         if let Some(bytes) = bytes {
             assert!(rt; store.put(named(&rt, file).as_str(), bytes).is_ok());
         }
@@ -306,7 +365,7 @@ fn failing_reads_are_told(rt: HostRuntime) -> Result<(), Fail> {
             call: WORDS.len() as u64 + call,
             keep_new: false,
         };
-        let mut store = store(&rt, WORDS, "", &[], &[fail]);
+        let mut store = store(&rt, WORDS, "", &[fail]);
         match selected(
             &rt,
             &mut store,

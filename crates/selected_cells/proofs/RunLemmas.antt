@@ -6,7 +6,8 @@ use Rattle.std.proofs.lemmas.List.{map-append}
 use Rattle.fb_types.specs.declared.cells.Cell.{Cell}
 use Rattle.query_grammar.specs.declared.picking.PickItem.{PickItem}
 use Rattle.world.specs.World.{Partition}
-use Rattle.query_engine.specs.Selected.{PartRun, first_runs, later_runs, records_at, rows_of_run, selected_cells, selected_over}
+use Rattle.selected_cells.specs.Items.{selected_cells}
+use Rattle.selected_cells.specs.Runs.{PartRun, first_runs, later_runs, records_at, rows_of_run, selected_over}
 use Rattle.query_engine.proofs.NameLemmas.{either}
 
 take_none : {X : Type 0} (n : ℕ) → ◌≡◌ {A = List X} (take n []) []

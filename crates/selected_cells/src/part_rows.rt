@@ -11,11 +11,14 @@ ghost use Rattle.candidates.specs.Reads.{AddsAll};
 ghost use Rattle.world.specs.World.{Partition};
 ghost use Rattle.part_meaning.specs.Meaning.{IsPartAt};
 ghost use Rattle.query_engine.specs.Damage.{IfDamaged, NoDamage};
-ghost use Rattle.query_engine.specs.Selected.{AreInStep, FitsItem, HasRows, IsOpenedOf, IsPartDamaged, IsRunLook, Takes, first_runs, later_runs, looks_of_runs, mask_words, rows_of_runs, runs_in, run_at, selected_of, selected_cells};
+ghost use Rattle.selected_cells.specs.Damages.{IsPartDamaged};
+ghost use Rattle.selected_cells.specs.Items.{FitsItem, selected_cells};
+ghost use Rattle.selected_cells.specs.Opened.{HasRows, IsOpenedOf};
+ghost use Rattle.selected_cells.specs.Reads.{IsRunLook, looks_of_runs};
+ghost use Rattle.selected_cells.specs.Runs.{first_runs, later_runs, rows_of_runs, run_at, runs_in, selected_of};
+ghost use Rattle.selected_cells.specs.Walks.{AreInStep, Takes, mask_words};
 
 use crate::cells::{RowSpan, put_cells, put_nulls, repeat_cells};
-use crate::damage::ask_fault;
-use crate::fault::AskFault;
 use crate::listed::listed_part;
 use crate::present::Present;
 use crate::selected::{ItemColumn, SelectedPart, column_of};
@@ -23,6 +26,7 @@ use dataset::Dataset;
 use fb_outside::Store;
 use fb_types::Cell;
 use part_meta::PartMeta;
+use query_engine::{AskFault, ask_fault};
 use query_grammar::PickItem;
 use sqlite_items::Items;
 use std::alloc::{AllocError, Global};
@@ -54,7 +58,10 @@ impl<'a> Model for PartRows<'a> {
     ghost use Rattle.std.specs.Prelude.{◌≡◌, ◌+◌, ◌≤◌, ◌==◌, ◌∷◌, Some, if◌then◌else◌, length, map, slice_get};
     ghost use Rattle.std.specs.List.{AllByRecursion, sum_by};
     ghost use Rattle.dataset.specs.Opened.{IsDataset};
-    ghost use Rattle.query_engine.specs.Selected.{AreInStep, AreRunsFrom, FitsItem, HasRows, PartLeft, present_words, run_at, with_left};
+    ghost use Rattle.selected_cells.specs.Items.{FitsItem};
+    ghost use Rattle.selected_cells.specs.Opened.{HasRows};
+    ghost use Rattle.selected_cells.specs.Runs.{run_at};
+    ghost use Rattle.selected_cells.specs.Walks.{AreInStep, AreRunsFrom, PartLeft, present_words, with_left};
 
     ghost Value = { PartLeft };
 

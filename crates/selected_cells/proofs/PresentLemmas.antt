@@ -33,11 +33,11 @@ row_before first past (r ∷ rs) row low h = joined_row first past r rs row (eqb
 order_joined : (first past : ℕ) (r : ℕ × ℕ) (rs : List (ℕ × ℕ)) (t : Bool) → eqb past r.0 ≡ t → first ≤ past → AreInOrderFrom past (r ∷ rs)
     → AreInOrderFrom first (before first past (r ∷ rs))
 order_joined first past r rs true e low h =
-    rw e (omega arith, omega (arith, h.0, h.1.0), h.1.1)
-order_joined first past r rs false e low h = rw e (omega arith, omega arith, h.0, h.1)
+    rw e (omega arith, (omega (arith, h.0, h.1.0), h.1.1, h.1.2))
+order_joined first past r rs false e low h = rw e (omega arith, (omega arith, h.0, h.1))
 
 order_before : (first past : ℕ) (rs : List (ℕ × ℕ)) → first ≤ past → AreInOrderFrom past rs → AreInOrderFrom first (before first past rs)
-order_before first past [] low h = (omega arith, omega arith, tt, tt)
+order_before first past [] low h = (omega arith, (omega arith, tt, tt))
 order_before first past (r ∷ rs) low h = order_joined first past r rs (eqb past r.0) refl low h
 
 sooner : (place : ℕ) (rs : List (ℕ × ℕ)) → AreInOrderFrom (place + 1) rs → AreInOrderFrom place rs
@@ -118,8 +118,16 @@ pub tells_all : (rows : List Bool) → TellsFrom ((0, 0) ∷ runs_of rows) 0 row
 tells_all rows =
     let order = runs_in_order 0 rows in record {
       ordered = (omega arith, order.0, order.1);
-      each = λ row low. in_runs 0 rows row;
+      each = λ row low. passed row (is_in_run (runs_of rows) row) ∙ in_runs 0 rows row ∙ from_top row;
     }
+  where
+    passed : (row : ℕ) (rest : Bool) → (nat_le 0 row && nat_lt row 0 || rest) ≡ rest
+    passed row rest = grind (arith, nat_tests)
+
+    from_top : (row : ℕ) → is_row 0 rows row ≡ get_or rows row false
+    from_top row =
+        let all : row - 0 ≡ row = omega arith in
+        ap (λ t. t && get_or rows (row - 0) false) (le-leb 0 row (omega arith)) ∙ ap (λ n. get_or rows n false) all
 
 pub tells_more : (runs : List (ℕ × ℕ)) (from to : ℕ) (rows : List Bool) → TellsFrom runs from rows → from ≤ to → TellsFrom runs to rows
 tells_more runs from to rows h more = record { ordered = h.ordered; each = λ row low. h.each row (omega (arith, low, more)) }
@@ -138,7 +146,7 @@ not_yet : (past row : ℕ) (runs : List (ℕ × ℕ)) → AreInOrderFrom past ru
 not_yet past row [] h below = refl
 not_yet past row (r ∷ runs) h below =
     let out : (nat_le r.0 row && nat_lt row r.1) ≡ false = before_it r row (omega (arith, h.0, below)) in
-    ap (λ b. b || is_in_run runs row) out ∙ not_yet r.1 row runs h.1.1 (omega (arith, h.0, h.1.0, below))
+    ap (λ b. b || is_in_run runs row) out ∙ not_yet r.1 row runs (h.1.1, h.1.2) (omega (arith, h.0, h.1.0, below))
   where
     before_it : (r : ℕ × ℕ) (row : ℕ) → row < r.0 → (nat_le r.0 row && nat_lt row r.1) ≡ false
     before_it r row h = grind (arith, nat_tests)

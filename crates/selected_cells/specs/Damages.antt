@@ -9,15 +9,12 @@ use Rattle.two_stage.specs.Faults.{StopsAt}
 use Rattle.two_stage.specs.Placed.{placed_at}
 use Rattle.two_stage.specs.declared.fault.EvalFault.{EvalFault}
 use Rattle.query_engine.specs.Damage.{damage_of}
-use Rattle.selected_cells.specs.Items.{column_of}
+use Rattle.selected_cells.specs.Items.{HasItem}
 
 -- In this part a file of the column of an item is refused so.
 pub record IsPartDamaged (files : Option Files) (dataset : Dataset) (part : PartMeta) (items : List PickItem) (found : Damage) : Type 0 where
-  pub place : ℕ
-  pub picked : PickItem
-  pub of_item : slice_get items place ≡ Some picked
   pub col : ℕ
-  pub of_column : column_of picked ≡ Some col
+  pub of_item : HasItem items col
   pub fault : EvalFault
   pub is : StopsAt files (placed_at dataset.dir part col) fault
   pub told : damage_of dataset part fault ≡ Some found

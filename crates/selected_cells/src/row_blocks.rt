@@ -1,6 +1,6 @@
 //! The selected cells of the chosen rows of all parts, block by block.
 
-ghost use Rattle.std.specs.Prelude.{◌≡◌, ◌+◌, ◌≤◌, List, IfErr, IfOk, IsErrOf, OnOk, [], length, min};
+ghost use Rattle.std.specs.Prelude.{◌≡◌, ◌+◌, ◌≤◌, List, IfErr, IfOk, IsErrOf, OnOk, length, map, min};
 ghost use Rattle.std.specs.List.{AllByRecursion};
 ghost use Rattle.fb_outside.specs.Causes.{HasCause};
 ghost use Rattle.fb_outside.specs.Files.{SameFiles};
@@ -12,13 +12,13 @@ ghost use Rattle.query_engine.specs.Damage.{IfDamaged, NoDamage};
 ghost use Rattle.query_engine.specs.Parts.{AreParts};
 ghost use Rattle.selected_cells.specs.Damages.{IsSelectedDamaged};
 ghost use Rattle.selected_cells.specs.Items.{FitsItem};
-ghost use Rattle.selected_cells.specs.Opened.{AreForParts, AreOpenIn};
-ghost use Rattle.selected_cells.specs.Reads.{IsRunLookOver, looks_over};
+ghost use Rattle.selected_cells.specs.Opened.{AreOpenIn};
+ghost use Rattle.selected_cells.specs.Reads.{IsRunLook, looks_over};
 ghost use Rattle.selected_cells.specs.Runs.{first_runs, later_runs, rows_of_runs, runs_over, selected_over};
 ghost use Rattle.selected_cells.specs.Walks.{words_over};
 
+use crate::opened::SelectedPart;
 use crate::part_rows::PartRows;
-use crate::selected::SelectedPart;
 use column_file::MAX_ROWS_READ;
 use dataset::Dataset;
 use fb_outside::Store;
@@ -51,11 +51,10 @@ pub struct RowBlocks<'a> {
 }
 
 impl<'a> Model for RowBlocks<'a> {
-    ghost use Rattle.std.specs.Prelude.{◌≡◌, ◌+◌, ◌≤◌, ◌++◌, drop, length};
+    ghost use Rattle.std.specs.Prelude.{◌≡◌, ◌+◌, ◌≤◌, ◌++◌, drop, length, map};
     ghost use Rattle.std.specs.List.{AllByRecursion};
     ghost use Rattle.dataset.specs.Opened.{IsDataset};
     ghost use Rattle.selected_cells.specs.Items.{FitsItem};
-    ghost use Rattle.selected_cells.specs.Opened.{AreForParts};
     ghost use Rattle.selected_cells.specs.Runs.{first_runs, runs_over};
     ghost use Rattle.selected_cells.specs.Walks.{BlocksLeft, IsWalkOf, runs_left, words_left, words_over};
 
@@ -71,7 +70,8 @@ impl<'a> Model for RowBlocks<'a> {
 
     ghost invariant = { λ s. IsDataset s.dataset.now
         × AllByRecursion (FitsItem s.dataset.now.schema) s.items.now
-        × AreForParts s.dataset.now s.items.now s.chosen.now s.opened.now
+        × (map length s.chosen.now ≡ map (λ part. part.rows) s.dataset.now.parts)
+        × (length s.opened.now ≡ length s.dataset.now.parts)
         × (s.next ≤ length s.opened.now)
         × IsWalkOf s.dataset.now s.items.now s.opened.now s.walk
         × (length s.block.items ≡ 4096) };
@@ -89,7 +89,8 @@ impl<'a> RowBlocks<'a> {
     ) -> Result<RowBlocks<'a>, AllocError>
         requires valid { IsDataset dataset.now }
         requires fits { AllByRecursion (FitsItem dataset.now.schema) items.now }
-        requires parts { AreForParts dataset.now items.now chosen.now opened.now }
+        requires chosen { map length chosen.now ≡ map (λ part. part.rows) dataset.now.parts }
+        requires opened { length opened.now ≡ length dataset.now.parts }
         ensures over { IfOk result (λ blocks. (blocks.dataset ≡ dataset.now) × (blocks.items ≡ items.now) × (blocks.opened ≡ opened.now)) }
         ensures runs { IfOk result (λ blocks. blocks.runs ≡ first_runs most (runs_over 0 chosen.now)) }
         ensures words { IfOk result (λ blocks. blocks.words ≡ words_over chosen.now opened.now) }
@@ -119,7 +120,7 @@ impl<'a> RowBlocks<'a> {
         ensures cause { HasCause (S.faults store.old) (S.faults store.new) (IsErrOf result AskFault.Store) }
         ensures files { SameFiles (S.files store.old) (S.files store.new) }
         ensures stop { IfErr result (λ fault. IfDamaged fault (IsSelectedDamaged (S.files store.old) self.old.dataset self.old.items)) }
-        ensures reads { AddsOnly (IsRunLookOver self.old.opened (first_runs 4096 self.old.runs)) (S.reads store.old) (S.reads store.new) }
+        ensures reads { AddsOnly (IsRunLook self.old.opened (first_runs 4096 self.old.runs)) (S.reads store.old) (S.reads store.new) }
         ensures same { (self.new.dataset ≡ self.old.dataset) × (self.new.items ≡ self.old.items) × (self.new.opened ≡ self.old.opened) }
         ensures left { OnOk result (self.new.runs ≡ later_runs 4096 self.old.runs) }
         ensures count { IfOk result (λ rows. length rows.items ≡ min 4096 (rows_of_runs self.old.runs)) }
@@ -134,15 +135,27 @@ impl<'a> RowBlocks<'a> {
         let until = self.most.min(MAX_ROWS_READ as u64) as usize;
         let mut rows = Vec::new(self.alloc);
         for _ in self.next..self.opened.len() + 1 {
-            if let Some(walk) = &mut self.walk {
-                walk.fill(store, &mut self.block, until, &mut rows, steps)?;
-            }
+            self.fill(store, until, &mut rows, steps)?;
             if rows.len() == until || !self.enter_next()? {
                 break;
             }
         }
         self.most -= rows.len() as u64;
         Ok(rows)
+    }
+
+    /// Puts the next chosen rows of the part that is walked behind those that are there, until these are so many.
+    fn fill<S: Store, L: Ledger>(
+        &mut self,
+        store: &mut S,
+        until: usize,
+        rows: &mut Vec<Items<Cell>>,
+        steps: &mut Steps<L>,
+    ) -> Result<(), AskFault> {
+        match &mut self.walk {
+            Some(walk) => walk.fill(store, &mut self.block, until, rows, steps),
+            None => Ok(()),
+        }
     }
 
     /// Begins with the next part; false where there is none.
@@ -154,10 +167,10 @@ impl<'a> RowBlocks<'a> {
         self.walk = Some(PartRows::over(
             self.alloc,
             self.dataset,
-            place,
             self.items,
+            self.opened,
+            place,
             &self.chosen[place],
-            &self.opened[place],
         )?);
         self.next = place + 1;
         Ok(true)

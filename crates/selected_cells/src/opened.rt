@@ -16,7 +16,7 @@ ghost use Rattle.two_stage.specs.Placed.{placed_at};
 ghost use Rattle.query_engine.specs.Damage.{IfDamaged, NoDamage};
 ghost use Rattle.query_engine.specs.Parts.{AreParts};
 ghost use Rattle.selected_cells.specs.Damages.{IsPartDamaged, IsSelectedDamaged};
-ghost use Rattle.selected_cells.specs.Items.{FitsItem, column_of};
+ghost use Rattle.selected_cells.specs.Items.{FitsItem, HasItem, column_of};
 ghost use Rattle.selected_cells.specs.Opened.{AreOpenIn, IsColumnOf, IsItemColumn, IsOpenedOf, mask_of};
 ghost use Rattle.selected_cells.specs.Reads.{IsOpening, IsOpeningOf};
 
@@ -62,7 +62,8 @@ pub(crate) enum ItemColumn {
     Nothing,
     /// An earlier item, at this place, is of the same column.
     Same(usize),
-    Own(SelectedColumn),
+    /// A column at this place in the schema.
+    Own(usize, SelectedColumn),
 }
 
 /// The columns of a part, one for each item.
@@ -185,7 +186,7 @@ fn open_item<S: Store>(
         column: &dataset.schema.columns()[col],
     };
     match open_column(alloc, store, &placed) {
-        Ok(column) => Ok(ItemColumn::Own(column)),
+        Ok(column) => Ok(ItemColumn::Own(col, column)),
         Err(fault) => Err(ask_fault(alloc, dataset, part, fault)),
     }
 }

@@ -83,7 +83,9 @@ pub(crate) fn read_span<S: Store, L: Ledger>(
     let mut rows = empty_rows(alloc, (span.past - span.first) as usize)?;
     for place in 0..open.columns.len() {
         let present = &mut presents[place];
-        let cells = item_cells(alloc, store, open, place, present, span, block, &rows, steps)?;
+        let cells = item_cells(
+            alloc, store, open, place, present, span, block, &rows, steps,
+        )?;
         put_column(cells, &mut rows)?;
     }
     Ok(rows)
@@ -143,7 +145,9 @@ fn item_cells<S: Store, L: Ledger>(
         ItemColumn::Nothing => Ok(nulls(alloc, rows.len())?),
         ItemColumn::Same(earlier) => Ok(copies(alloc, *earlier, rows)?),
         ItemColumn::Own(col, column) => {
-            own_cells(alloc, store, open, *col, column, present, span, block, steps)
+            own_cells(
+                alloc, store, open, *col, column, present, span, block, steps,
+            )
         }
     }
 }
@@ -179,7 +183,7 @@ fn own_cells<S: Store, L: Ledger>(
 
     // Where the files rest for a partition.
     ensures cells { IfOk result (λ cells. (p : Partition) → IsPartAt (S.files store.old) open.now.dataset.now.dir open.now.part.now p
-        → cells.items ≡ map (λ record. cell_at record (Some col)) (records_between p.records span.first span.past)) }
+        → cells.items ≡ map (λ row. cell_at row (Some col)) (records_between p.records span.first span.past)) }
     ensures whole { IfErr result (λ fault. (p : Partition) → IsPartAt (S.files store.old) open.now.dataset.now.dir open.now.part.now p → NoDamage fault) }
 {
     match stored_cells(alloc, store, col, column, span, block) {

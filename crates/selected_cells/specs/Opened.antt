@@ -1,5 +1,6 @@
 -- The columns that a query selects, open in each part.
-use Rattle.std.specs.Prelude.{◌≡◌, ⊤, ⊥, ℕ, Bool, List, [], length, take, Option, Some, None, Ok, IfSome, slice_get}
+use Rattle.std.specs.Prelude.{◌≡◌, ◌≢◌, ⊤, ⊥, ℕ, Bool, List, [], length, take, Option, Some, None, Ok, IfSome, slice_get}
+use Rattle.std.specs.List.{AllByRecursion}
 use Rattle.fb_outside.specs.Files.{Files, file_at}
 use Rattle.fb_types.specs.declared.types.ColType.TheVariants.{Category}
 use Rattle.part_meta.specs.declared.part.PartMeta.{PartMeta}
@@ -35,12 +36,13 @@ pub record IsColumnOf (files : Option Files) (p : Placed) (column : SelectedColu
   pub each : length (mask_of column) ≡ p.rows
   pub mask : IfSome files (λ m. mask_in p.rows (file_at m (mask_file p)) ≡ Ok (mask_of column))
 
--- of an item the column that an item before it has, or its own, which is open
+-- of an item the column that an item before it has, or its own, which is open and no item before it has
 abbrev pub IsItemColumn : Option Files → List ℕ → PartMeta → List PickItem → Option ℕ → ItemColumn → Type 0
 IsItemColumn files dir part before None item.Nothing = ⊤
 IsItemColumn files dir part before (Some col) (item.Same place) =
     (earlier : PickItem) × (slice_get before place ≡ Some earlier) × (column_of earlier ≡ Some col)
-IsItemColumn files dir part before (Some col) (item.Own own column) = (own ≡ col) × IsColumnOf files (placed_at dir part col) column
+IsItemColumn files dir part before (Some col) (item.Own own column) =
+    (own ≡ col) × AllByRecursion (λ earlier. column_of earlier ≢ Some col) before × IsColumnOf files (placed_at dir part col) column
 IsItemColumn files dir part before col column = ⊥
 
 -- in the part each item has its column

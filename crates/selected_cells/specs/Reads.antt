@@ -87,14 +87,18 @@ pub record IsOpeningOf (p : Placed) (look : Look) : Type 0 where
   pub is_kind : IsOpeningKind kind
   pub named : look.name ≡ file_name p.dir p.number (Some p.column.name) kind
 
--- Over every store: the read opens the column of an item, in a part that the dataset lists.
+-- it opens the column of one of these items, in the part
+pub record IsPartOpening (dir : List ℕ) (part : PartMeta) (items : List PickItem) (look : Look) : Type 0 where
+  pub col : ℕ
+  pub of_item : HasItem items col
+  pub is : IsOpeningOf (placed_at dir part col) look
+
+-- Over every store: the same in a part that the dataset lists.
 pub record IsOpening (dataset : Dataset) (items : List PickItem) (look : Look) : Type 0 where
   pub place : ℕ
   pub part : PartMeta
   pub listed : slice_get dataset.parts place ≡ Some part
-  pub col : ℕ
-  pub of_item : HasItem items col
-  pub is : IsOpeningOf (placed_at dataset.dir part col) look
+  pub is : IsPartOpening dataset.dir part items look
 
 -- ---- which reads are allowed
 

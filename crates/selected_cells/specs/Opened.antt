@@ -1,5 +1,5 @@
 -- The columns that a query selects, open in each part.
-use Rattle.std.specs.Prelude.{◌≡◌, ◌≢◌, ⊤, ⊥, ℕ, Bool, List, [], length, take, Option, Some, None, Ok, IfSome, slice_get}
+use Rattle.std.specs.Prelude.{◌≡◌, ◌≢◌, ⊤, ℕ, Bool, List, [], length, take, Option, Some, None, Ok, IfSome, slice_get}
 use Rattle.std.specs.List.{AllByRecursion}
 use Rattle.fb_outside.specs.Files.{Files, file_at}
 use Rattle.fb_types.specs.declared.types.ColType.TheVariants.{Category}

@@ -1,5 +1,5 @@
 -- What the runs of a vector tell of its rows from one on.
-use Rattle.std.specs.Prelude.{◌≡◌, ⊥, ℕ, ◌≤◌, ◌&&◌, Bool, false, List, [], ◌∷◌, Option, None, Some, get_or, nat_le, nat_lt}
+use Rattle.std.specs.Prelude.{◌≡◌, ℕ, ◌≤◌, ◌&&◌, Bool, false, List, [], ◌∷◌, Option, None, Some, get_or, nat_le, nat_lt}
 use Rattle.std.specs.List.{list_any}
 use Rattle.wah_iter.specs.Walks.{RunsLeft}
 

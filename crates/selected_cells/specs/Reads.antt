@@ -1,5 +1,5 @@
 -- What is read to open selected columns, and of their chosen rows.
-use Rattle.std.specs.Prelude.{◌≡◌, ⊤, ⊥, ℕ, ◌||◌, Bool, false, List, [], ◌∷◌, Option, Some, None, slice_get}
+use Rattle.std.specs.Prelude.{◌≡◌, ⊤, ℕ, ◌||◌, Bool, false, List, [], ◌∷◌, Option, Some, None, slice_get}
 use Rattle.std.specs.List.{flat_map, list_any}
 use Rattle.fb_outside.specs.Reads.{Look}
 use Rattle.fb_types.specs.declared.schemas.Column.{Column}

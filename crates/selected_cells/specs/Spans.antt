@@ -1,5 +1,5 @@
 -- Runs of rows of a part, each as its first row and the one past its last, that are taken in spans.
-use Rattle.std.specs.Prelude.{◌≡◌, ⊥, ℕ, ◌+◌, ◌<◌, ◌≤◌, List, [], ◌∷◌, Option, None, Some, if◌then◌else◌, min, nat_lt}
+use Rattle.std.specs.Prelude.{◌≡◌, ℕ, ◌+◌, ◌<◌, ◌≤◌, List, [], ◌∷◌, Option, None, Some, if◌then◌else◌, min, nat_lt}
 use Rattle.selected_cells.specs.declared.spans.RowSpan.{RowSpan}
 
 -- rows that are left, where there is one, before those that come

@@ -1,11 +1,10 @@
 //! The cells of neighbouring rows, a column at a time.
 
-ghost use Rattle.std.specs.Prelude.{◌≡◌, ◌+◌, ◌-◌, ◌^◌, ◌<◌, ◌≤◌, ◌++◌, ◌∷◌, [], ℕ, ℤ, pos, Bool, List, Unit, IfErr, IfOk, IsSome, OnOk, drop, length, map, replicate, take};
+ghost use Rattle.std.specs.Prelude.{◌≡◌, ◌+◌, ◌-◌, ◌^◌, ◌<◌, ◌≤◌, ◌++◌, ◌∷◌, [], ℕ, ℤ, pos, Bool, List, IfErr, IfOk, OnOk, drop, length, map, replicate, take};
 ghost use Rattle.std.specs.List.{All, AllByRecursion};
 ghost use Rattle.fb_outside.specs.Causes.{HasCause};
 ghost use Rattle.fb_outside.specs.Files.{SameFiles};
 ghost use Rattle.fb_outside.specs.Reads.{AddsOnly};
-ghost use Rattle.fb_types.specs.Types.{width_of};
 ghost use Rattle.fb_types.specs.declared.cells.Cell.TheVariants.{Null, Whole, Word};
 ghost use Rattle.fb_types.specs.declared.types.ColType.TheVariants.{Category};
 ghost use Rattle.column_file.specs.Values.{ValueFits};
@@ -16,7 +15,6 @@ ghost use Rattle.stages.specs.Faults.{IsRefused};
 ghost use Rattle.part_meaning.specs.Columns.{PartColumn};
 ghost use Rattle.two_stage.specs.Faults.{IsOfStore, IsOutside, StopsAt};
 ghost use Rattle.two_stage.specs.Kept.{IsNumbersOf, IsTextsOf};
-ghost use Rattle.two_stage.specs.Placed.{Placed};
 ghost use Rattle.selected_cells.specs.Cells.{HasCells, cell_in, cells_between, present_cells, put_last, rows_items, word_cell};
 ghost use Rattle.selected_cells.specs.Opened.{IsColumnOf, mask_of};
 ghost use Rattle.selected_cells.specs.Present.{Tells, present_words};
@@ -32,25 +30,26 @@ use std::alloc::{AllocError, Global};
 use std::sync::ledger::Ledger;
 use steps::Steps;
 use text_column::{Dictionary, TextFault, TextRef, read_texts};
-use two_stage::EvalFault;
+use two_stage::{EvalFault, PlacedColumn};
 
 /// What the files have in these rows of a column, by one read of just their bytes: a cell of each row, whether it has a value or
-/// not. `col` is the column's place in the schema, `block` what numbers are read into.
+/// not. `block` is what numbers are read into.
 pub(crate) fn stored_cells<S: Store>(
     alloc: Global,
     store: &mut S,
-    col: usize,
+    placed: &PlacedColumn,
     column: &SelectedColumn,
     span: RowSpan,
     block: &mut [i128],
 ) -> Result<Vec<Cell>, EvalFault>
-    requires opened { (p : Placed) × (p.col ≡ col) × IsColumnOf (S.files store.old) p column.now × (span.past ≤ p.rows) }
+    requires opened { IsColumnOf (S.files store.old) placed.now column.now }
     requires order { span.first < span.past }
     requires few { span.past ≤ span.first + 4096 }
+    requires within { span.past ≤ placed.now.rows }
     requires block { length block.old ≡ 4096 }
     ensures cause { HasCause (S.faults store.old) (S.faults store.new) (IsRefused result IsOfStore) }
     ensures files { SameFiles (S.files store.old) (S.files store.new) }
-    ensures stop { IfErr result (λ fault. (p : Placed) → p.col ≡ col → IsColumnOf (S.files store.old) p column.now → StopsAt (S.files store.old) p fault) }
+    ensures stop { IfErr result (StopsAt (S.files store.old) placed.now) }
     ensures block { length block.new ≡ length block.old }
     ensures count { IfOk result (λ cells. length cells.items ≡ span.past - span.first) }
     ensures reads { AddsOnly (λ look. look ≡ look_of column.now span.first span.past) (S.reads store.old) (S.reads store.new) }
@@ -65,16 +64,16 @@ pub(crate) fn stored_cells<S: Store>(
     match column {
         SelectedColumn::Numbers(column) => {
             let numbers = &mut block[..count];
-            read_numbers(store, col, column, span.first, numbers)?;
+            read_numbers(store, placed, column, span.first, numbers)?;
             Ok(whole_cells(alloc, numbers)?)
         }
         SelectedColumn::Words(codes, words) => {
             let numbers = &mut block[..count];
-            read_numbers(store, col, codes, span.first, numbers)?;
+            read_numbers(store, placed, codes, span.first, numbers)?;
             Ok(word_cells(alloc, words, numbers)?)
         }
         SelectedColumn::Texts(text) => {
-            let texts = texts_between(alloc, store, col, text, span)?;
+            let texts = texts_between(alloc, store, placed, text, span)?;
             Ok(text_cells(alloc, texts)?)
         }
     }
@@ -83,17 +82,17 @@ pub(crate) fn stored_cells<S: Store>(
 /// The numbers, or the codes, of as many rows as there is room for.
 fn read_numbers<S: Store>(
     store: &mut S,
-    col: usize,
+    placed: &PlacedColumn,
     column: &ColumnRef,
     first: u32,
     numbers: &mut [i128],
 ) -> Result<(), EvalFault>
-    requires width { IsSome (width_of column.now.ty) }
-    requires rows { first + length numbers.old ≤ column.now.rows }
+    requires opened { IsNumbersOf (S.files store.old) placed.now column.now }
+    requires rows { first + length numbers.old ≤ placed.now.rows }
     requires few { length numbers.old ≤ 4096 }
     ensures cause { HasCause (S.faults store.old) (S.faults store.new) (IsRefused result IsOfStore) }
     ensures files { SameFiles (S.files store.old) (S.files store.new) }
-    ensures stop { IfErr result (λ fault. (p : Placed) → p.col ≡ col → IsNumbersOf (S.files store.old) p column.now → StopsAt (S.files store.old) p fault) }
+    ensures stop { IfErr result (StopsAt (S.files store.old) placed.now) }
     ensures length { length numbers.new ≡ length numbers.old }
     ensures fit { OnOk result (All (λ number. ValueFits number column.now.ty) numbers.new) }
     ensures reads { AddsOnly (λ look. look ≡ numbers_look column.now (first, first + length numbers.old)) (S.reads store.old) (S.reads store.new) }
@@ -101,11 +100,11 @@ fn read_numbers<S: Store>(
 
     // Where the values file has numbers.
     ensures numbers { OnOk result ((all : List ℤ) → HasNumbers (S.files store.old) column.now all → numbers.new ≡ take (length numbers.old) (drop first all)) }
-    ensures whole { IfErr result (λ fault. (all : List ℤ) → HasNumbers (S.files store.old) column.now all → IsOfStore fault) }
+    ensures whole { IfErr result (λ fault. (all : List ℤ) → HasNumbers (S.files store.old) column.now all → IsOutside fault) }
 {
     match read_rows(store, column, first, numbers) {
         Ok(()) => Ok(()),
-        Err(fault) => Err(EvalFault::Col(col, fault)),
+        Err(fault) => Err(EvalFault::Col(placed.col, fault)),
     }
 }
 
@@ -113,15 +112,16 @@ fn read_numbers<S: Store>(
 fn texts_between<S: Store>(
     alloc: Global,
     store: &mut S,
-    col: usize,
+    placed: &PlacedColumn,
     text: &TextRef,
     span: RowSpan,
 ) -> Result<Vec<Label>, EvalFault>
+    requires opened { IsTextsOf (S.files store.old) placed.now text.now }
     requires order { span.first < span.past }
-    requires rows { span.past ≤ text.now.rows }
+    requires rows { span.past ≤ placed.now.rows }
     ensures cause { HasCause (S.faults store.old) (S.faults store.new) (IsRefused result IsOfStore) }
     ensures files { SameFiles (S.files store.old) (S.files store.new) }
-    ensures stop { IfErr result (λ fault. (p : Placed) → p.col ≡ col → IsTextsOf (S.files store.old) p text.now → StopsAt (S.files store.old) p fault) }
+    ensures stop { IfErr result (StopsAt (S.files store.old) placed.now) }
     ensures count { IfOk result (λ texts. length texts.items ≡ span.past - span.first) }
     ensures reads { AddsOnly (λ look. look ≡ texts_look text.now (span.first, span.past)) (S.reads store.old) (S.reads store.new) }
     ensures once { IfOk result (λ texts. AddsAll (S.files store.old) (S.reads store.old) (S.reads store.new)
@@ -135,7 +135,7 @@ fn texts_between<S: Store>(
     match read_texts(alloc, store, text, span.first, span.past) {
         Ok(texts) => Ok(texts),
         Err(TextFault::OutOfMemory) => Err(EvalFault::OutOfMemory),
-        Err(fault) => Err(EvalFault::Text(col, fault)),
+        Err(fault) => Err(EvalFault::Text(placed.col, fault)),
     }
 }
 

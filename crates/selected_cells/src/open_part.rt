@@ -22,7 +22,7 @@ ghost use Rattle.selected_cells.specs.Runs.{records_between};
 ghost use Rattle.selected_cells.specs.Walks.{AreInStep, IsInStep};
 
 use crate::cells::{copies, hide_absent, nulls, put_column, stored_cells};
-use crate::opened::{ItemColumn, SelectedColumn};
+use crate::opened::{ItemColumn, SelectedColumn, placed};
 use crate::present::Present;
 use crate::spans::RowSpan;
 use dataset::Dataset;
@@ -186,7 +186,8 @@ fn own_cells<S: Store, L: Ledger>(
         → cells.items ≡ map (λ row. cell_at row (Some col)) (records_between p.records span.first span.past)) }
     ensures whole { IfErr result (λ fault. (p : Partition) → IsPartAt (S.files store.old) open.now.dataset.now.dir open.now.part.now p → NoDamage fault) }
 {
-    match stored_cells(alloc, store, col, column, span, block) {
+    let placed = placed(open.dataset, open.part, col);
+    match stored_cells(alloc, store, &placed, column, span, block) {
         Ok(cells) => {
             let mut cells = cells;
             hide_absent(&mut cells, present, span.first, steps);

@@ -191,7 +191,7 @@ fn open_item<S: Store>(
 }
 
 /// Where the files of a column of a part are.
-fn placed<'a>(dataset: &'a Dataset, part: &'a PartMeta, col: usize) -> PlacedColumn<'a>
+pub(crate) fn placed<'a>(dataset: &'a Dataset, part: &'a PartMeta, col: usize) -> PlacedColumn<'a>
     requires path { IsPath dataset.now.dir }
     requires part { IsPart part.now }
     requires column { col < length part.now.schema }

@@ -1,6 +1,6 @@
 //! The cells of neighbouring rows, a column at a time.
 
-ghost use Rattle.std.specs.Prelude.{◌≡◌, ◌+◌, ◌-◌, ◌^◌, ◌<◌, ◌≤◌, ◌++◌, ◌∷◌, [], ℕ, ℤ, pos, Bool, List, IfErr, IfOk, OnOk, drop, length, map, replicate, take};
+ghost use Rattle.std.specs.Prelude.{◌≡◌, ◌+◌, ◌-◌, ◌^◌, ◌<◌, ◌≤◌, ◌++◌, ◌∷◌, [], if◌then◌else◌, ℕ, ℤ, pos, Bool, List, IfErr, IfOk, OnOk, drop, length, map, replicate, take};
 ghost use Rattle.std.specs.List.{All, AllByRecursion};
 ghost use Rattle.fb_outside.specs.Causes.{HasCause};
 ghost use Rattle.fb_outside.specs.Files.{SameFiles};
@@ -194,9 +194,17 @@ pub(crate) fn hide_absent<L: Ledger>(
     ensures steps { steps.new + present_words present.new ≡ steps.old + present_words present.old }
 {
     for place in 0..cells.len() {
-        if !is_there(present, first + place as u32, steps) {
-            cells[place] = Cell::Null;
-        }
+        let there = is_there(present, first + place as u32, steps);
+        let cell = &mut cells[place];
+        hide_unless(there, cell);
+    }
+}
+
+fn hide_unless(there: bool, cell: &mut Cell)
+    ensures { cell.new ≡ (if there then cell.old else Null) }
+{
+    if !there {
+        *cell = Cell::Null;
     }
 }
 

@@ -1,40 +1,10 @@
--- Cells that are hidden where a row has no value, and put behind those of their rows.
+-- Cells that are copied, and put behind those of their rows.
 use Rattle.std.proofs.Common.{◌≡◌, ℕ, zero, suc, ◌+◌, ◌<◌, Bool, true, false, cond, List, [], ◌∷◌, ◌++◌, length, get_or, set, map, take, drop, refl, sym, ap, subst, ◌∙◌, add-one, arith}
 use Rattle.std.specs.List.{AllByRecursion}
 use Rattle.std.specs.Prelude.{Vec}
+use Rattle.std.proofs.lemmas.List.{length-map}
 use Rattle.fb_types.specs.declared.cells.Cell.{Cell}
-use Rattle.fb_types.specs.declared.cells.Cell.TheVariants.{Null}
-use Rattle.selected_cells.specs.Cells.{present_cells, put_last, rows_items}
-
--- ---- one more cell is hidden where its row has no value
-
-none_dropped : (n : ℕ) → ◌≡◌ {A = List Bool} (drop n []) []
-none_dropped zero = refl
-none_dropped (suc n) = refl
-
-dropped_at : (bits : List Bool) (first place : ℕ) → get_or (drop first bits) place false ≡ get_or bits (first + place) false
-dropped_at bits zero place = refl
-dropped_at [] (suc n) place = refl
-dropped_at (b ∷ bits) (suc n) place = dropped_at bits n place
-
-hidden_by : (bits : List Bool) (cells : List Cell) (place : ℕ) (x : Cell) → place < length cells
-    → x ≡ cond (get_or bits place false) (get_or cells place Null) Null
-    → take (suc place) (set cells place x) ++ present_cells (drop (suc place) bits) (drop (suc place) (set cells place x))
-    ≡ take place cells ++ present_cells (drop place bits) (drop place cells)
-hidden_by bits [] place x below is = absurd (omega arith)
-hidden_by [] (c ∷ cells) zero x below is = ap (λ y. y ∷ present_cells [] cells) is
-hidden_by (b ∷ bits) (c ∷ cells) zero x below is = ap (λ y. y ∷ present_cells bits cells) is
-hidden_by [] (c ∷ cells) (suc n) x below is =
-    ap (λ l. c ∷ l) (hidden_by [] cells n x (omega arith) is ∙ ap (λ bits. take n cells ++ present_cells bits (drop n cells)) (none_dropped n))
-hidden_by (b ∷ bits) (c ∷ cells) (suc n) x below is = ap (λ l. c ∷ l) (hidden_by bits cells n x (omega arith) is)
-
-pub one_hidden : (bits : List Bool) (first place : ℕ) (cells : List Cell) (there : Bool) (cell : Cell) → place < length cells
-    → there ≡ get_or bits (first + place) false → cell ≡ get_or cells place Null
-    → take (place + 1) (set cells place (cond there cell Null)) ++ present_cells (drop (place + 1) (drop first bits)) (drop (place + 1) (set cells place (cond there cell Null)))
-    ≡ take place cells ++ present_cells (drop place (drop first bits)) (drop place cells)
-one_hidden bits first place cells there cell below asked is =
-    rw add-one (hidden_by (drop first bits) cells place (cond there cell Null) below
-    (ap (λ t. cond t cell Null) (asked ∙ sym (dropped_at bits first place)) ∙ ap (λ c. cond (get_or (drop first bits) place false) c Null) is))
+use Rattle.selected_cells.specs.Cells.{put_last, rows_items}
 
 -- ---- the cell of an earlier item
 
@@ -62,3 +32,25 @@ one_put [] cell [] below = absurd (omega arith)
 one_put [] cell (row ∷ rows) below = refl
 one_put (c ∷ cells) cell [] below = absurd (omega arith)
 one_put (c ∷ cells) cell (row ∷ rows) below = ap (λ l. (row ++ c ∷ []) ∷ l) (one_put cells cell rows (omega arith))
+
+rows_set : {A : Type 0} (rows : List (Vec Cell A)) (i : ℕ) (row : Vec Cell A) → rows_items (set rows i row) ≡ set (rows_items rows) i row.items
+rows_set [] i row = refl
+rows_set (r ∷ rows) zero row = refl
+rows_set (r ∷ rows) (suc i) row = ap (λ l. r.items ∷ l) (rows_set rows i row)
+
+row_at : {A : Type 0} (rows : List (Vec Cell A)) (i : ℕ) (row : Vec Cell A) → i < length rows → row ≡ get_or rows i row → get_or (rows_items rows) i [] ≡ row.items
+row_at [] i row below is = absurd (omega arith)
+row_at (r ∷ rows) zero row below is = ap (λ (v : Vec Cell _). v.items) (sym is)
+row_at (r ∷ rows) (suc i) row below is = row_at rows i row (omega arith) is
+
+-- the last of some cells, put into its row
+pub cell_put : {A : Type 0} (all cells : List Cell) (cell : Cell) (rows : List (Vec Cell A)) (old new : Vec Cell A) → length cells < length rows
+    → all ≡ cells ++ cell ∷ [] → old ≡ get_or rows (length cells) old → new.items ≡ old.items ++ cell ∷ []
+    → put_last cells (rows_items (set rows (length cells) new)) ≡ put_last all (rows_items rows)
+cell_put all cells cell rows old new below is at grown =
+    ap (put_last cells) (rows_set rows (length cells) new
+    ∙ ap (set (rows_items rows) (length cells)) (grown ∙ ap (λ l. l ++ cell ∷ []) (sym (row_at rows (length cells) old below at))))
+    ∙ one_put cells cell (rows_items rows) (rw (rows_long rows) below) ∙ ap (λ l. put_last l (rows_items rows)) (sym is)
+  where
+    rows_long : {A : Type 0} (rows : List (Vec Cell A)) → length (rows_items rows) ≡ length rows
+    rows_long rows = length-map rows (λ row. row.items)

@@ -7,15 +7,17 @@ use Rattle.part_meta.specs.declared.part.PartMeta.{PartMeta}
 use Rattle.column_file.specs.Opening.{mask_in}
 use Rattle.text_column.specs.OpenedDictionary.{dictionary_of as words_in}
 use Rattle.query_grammar.specs.declared.picking.PickItem.{PickItem}
+use Rattle.dataset.specs.Opened.{IsDataset}
 use Rattle.dataset.specs.declared.content.Dataset.{Dataset}
 use Rattle.two_stage.specs.Kept.{IsNumbersOf, IsTextsOf}
 use Rattle.two_stage.specs.Placed.{Placed, mask_file, placed_at, words_file}
+use Rattle.selected_cells.specs.declared.open_part.OpenPart.{OpenPart}
 use Rattle.selected_cells.specs.declared.opened.ItemColumn.{ItemColumn}
 use Rattle.selected_cells.specs.declared.opened.ItemColumn.TheVariants as item
 use Rattle.selected_cells.specs.declared.opened.SelectedColumn.{SelectedColumn}
 use Rattle.selected_cells.specs.declared.opened.SelectedColumn.TheVariants.{Numbers, Words, Texts}
 use Rattle.selected_cells.specs.declared.opened.SelectedPart.{SelectedPart}
-use Rattle.selected_cells.specs.Items.{column_of}
+use Rattle.selected_cells.specs.Items.{FitsItem, column_of}
 
 -- the rows that have a value
 abbrev pub mask_of : SelectedColumn → List Bool
@@ -61,3 +63,9 @@ pub record AreOpenIn (files : Option Files) (dataset : Dataset) (items : List Pi
 abbrev pub columns_at : Option SelectedPart → List ItemColumn
 columns_at None = []
 columns_at (Some part) = part.columns
+
+-- The part is one that the dataset lists, and the items are of columns of the schema.
+pub record IsListedPart (part : OpenPart) : Type 0 where
+  pub valid : IsDataset part.dataset.now
+  pub listed : slice_get part.dataset.now.parts part.place ≡ Some part.meta.now
+  pub fits : AllByRecursion (FitsItem part.dataset.now.schema) part.items.now

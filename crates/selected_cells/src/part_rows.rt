@@ -44,7 +44,7 @@ use wah_words::Wah;
 pub(crate) struct PartRows<'a> {
     alloc: Global,
     opened: &'a [SelectedPart],
-    open: OpenPart<'a>,
+    part: OpenPart<'a>,
     spans: Spans<'a>,
     /// For each item the walk over its column's mask, where it has a column of its own.
     presents: Vec<Option<Present<'a>>>,
@@ -53,23 +53,24 @@ pub(crate) struct PartRows<'a> {
 impl<'a> Model for PartRows<'a> {
     ghost use Rattle.std.specs.Prelude.{◌≡◌, ◌+◌, slice_get};
     ghost use Rattle.std.specs.List.{sum_by};
-    ghost use Rattle.selected_cells.specs.Opened.{columns_at};
+    ghost use Rattle.selected_cells.specs.Opened.{IsListedPart, columns_at};
     ghost use Rattle.selected_cells.specs.Present.{present_words};
     ghost use Rattle.selected_cells.specs.Walks.{IsWalk, PartLeft};
 
     ghost Value = { PartLeft };
 
     ghost view = { λ s. record {
-      dataset = s.open.dataset.now;
-      items = s.open.items.now;
+      dataset = s.part.dataset.now;
+      items = s.part.items.now;
       opened = s.opened.now;
-      place = s.open.place;
+      place = s.part.place;
       runs = s.spans.runs;
       words = s.spans.words + sum_by present_words s.presents.items;
     } };
 
-    ghost invariant = { λ s. (s.open.columns.now ≡ columns_at (slice_get s.opened.now s.open.place))
-        × IsWalk s.open.part.now.rows s.open.columns.now s.presents.items s.spans.runs };
+    ghost invariant = { λ s. IsListedPart s.part
+        × (s.part.columns.now ≡ columns_at (slice_get s.opened.now s.part.place))
+        × IsWalk s.part.meta.now.rows s.part.columns.now s.presents.items s.spans.runs };
 }
 
 impl<'a> PartRows<'a> {
@@ -95,10 +96,10 @@ impl<'a> PartRows<'a> {
         Ok(PartRows {
             alloc,
             opened,
-            open: OpenPart {
+            part: OpenPart {
                 dataset,
                 place,
-                part: listed_part(dataset, place),
+                meta: listed_part(dataset, place),
                 items,
                 columns,
             },
@@ -147,7 +148,7 @@ impl<'a> PartRows<'a> {
             let cells = read_span(
                 self.alloc,
                 store,
-                &self.open,
+                &self.part,
                 &mut self.presents,
                 span,
                 block,

@@ -21,10 +21,10 @@ invariant-loop-place g l =
       block : length l.block ≡ length l.fn.block;
       count : length l.rows.items ≡ l.span.past - l.span.first;
       wide : AllByRecursion (λ row. length row ≡ l.place) (rows_items l.rows.items);
-      step : SteppedTo l.span.first l.span.past l.place l.open.columns.now l.presents.items;
+      step : SteppedTo l.span.first l.span.past l.place l.part.columns.now l.presents.items;
       steps : l.steps + sum_by present_words l.presents.items ≡ l.fn.steps + sum_by present_words l.fn.presents.items;
-      looked : AddsOnly (IsColumnsLook l.open.columns.now l.span.first l.span.past) (g.S.Store.reads l.fn.store) (g.S.Store.reads l.store);
-      read : AddsAll files (g.S.Store.reads l.fn.store) (g.S.Store.reads l.store) (looks_of_columns (take l.place l.open.columns.now) l.span.first l.span.past);
-      rows : (p : Partition) → IsPartAt files l.open.dataset.now.dir l.open.part.now p
-          → rows_items l.rows.items ≡ map (selected_cells (take l.place l.open.items.now)) (records_between p.records l.span.first l.span.past);
+      looked : AddsOnly (IsColumnsLook l.part.columns.now l.span.first l.span.past) (g.S.Store.reads l.fn.store) (g.S.Store.reads l.store);
+      read : AddsAll files (g.S.Store.reads l.fn.store) (g.S.Store.reads l.store) (looks_of_columns (take l.place l.part.columns.now) l.span.first l.span.past);
+      rows : (p : Partition) → IsPartAt files l.part.dataset.now.dir l.part.meta.now p
+          → rows_items l.rows.items ≡ map (selected_cells (take l.place l.part.items.now)) (records_between p.records l.span.first l.span.past);
     }

@@ -5,3 +5,5 @@ pub mod HitLemmas
 pub mod WorldLemmas
 pub mod LookLemmas
 pub mod EncloseLemmas
+pub mod PickLemmas
+pub mod SelectionLemmas

@@ -59,7 +59,7 @@ module _ (columns : List Column) where
   abbrev pub name_in : PlanAtom → List ℕ
   name_in condition = (slice_index_or columns (place_in condition) no_column).name
 
-  place_there : (o : Option ℕ) (col : ℕ) (ty : ColType)
+  pub place_there : (o : Option ℕ) (col : ℕ) (ty : ColType)
       → option_and_then {U = ℕ × ColType} (λ c. option_map (λ (column : Column). (c, column.ty)) (slice_get columns c)) o ≡ Some (col, ty)
       → (o ≡ Some col) × ((column : Column) × (slice_get columns col ≡ Some column))
   place_there None col ty e = absurd (cc)

@@ -57,7 +57,7 @@ asked_planned dir query dataset clause plan e is =
 
 -- ---- the steps
 
-is_there : (dir : List ℕ) (found : Found) (dataset : Dataset) → dataset_or_refusal dir found ≡ Ok dataset → found ≡ There dataset
+pub is_there : (dir : List ℕ) (found : Found) (dataset : Dataset) → dataset_or_refusal dir found ≡ Ok dataset → found ≡ There dataset
 is_there dir Absent dataset e = absurd (cc)
 is_there dir (There d) dataset e = let same : d ≡ dataset = cc in ap There same
 is_there dir (Broken damage) dataset e = absurd (cc)

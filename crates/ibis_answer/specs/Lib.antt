@@ -3,3 +3,9 @@ pub mod Answer
 pub mod Causes
 pub mod Looks
 pub mod Asked
+pub mod Selected
+pub mod Shown
+pub mod ShownCauses
+pub mod ShownLooks
+pub mod SelectSamples
+pub mod Selection

@@ -102,7 +102,7 @@ fn without_list(query: Query) -> Result<Option<Clause>, ClauseFault>
     }
 }
 
-fn stop_of_text(fault: ClauseFault) -> Unanswered
+pub(crate) fn stop_of_text(fault: ClauseFault) -> Unanswered
     ensures { result ≡ stop_of_text fault }
 {
     match fault {
@@ -111,7 +111,7 @@ fn stop_of_text(fault: ClauseFault) -> Unanswered
     }
 }
 
-fn stop_of_name(fault: NameFault) -> Unanswered
+pub(crate) fn stop_of_name(fault: NameFault) -> Unanswered
     ensures { result ≡ stop_of_name fault }
 {
     match fault {
@@ -120,7 +120,7 @@ fn stop_of_name(fault: NameFault) -> Unanswered
     }
 }
 
-fn bad_query(kind: QueryKind) -> Unanswered
+pub(crate) fn bad_query(kind: QueryKind) -> Unanswered
     ensures { result ≡ Unanswered.Refused (Status.BadQuery kind) }
 {
     Unanswered::Refused(Status::BadQuery { kind })

@@ -8,9 +8,15 @@
 mod answering;
 mod asking;
 mod laws;
+mod selecting;
+mod showing;
 
 pub use answering::{Counted, answer, estimate};
-pub use laws::{an_estimate_encloses_its_answer, the_texts_of_answers};
+pub use laws::{
+    an_estimate_encloses_its_answer, the_names_of_queries, the_picks_of_queries,
+    the_texts_of_answers, the_texts_of_queries,
+};
+pub use showing::{Unprinted, print_answer};
 
 #[cfg(test)]
 mod sample_files;

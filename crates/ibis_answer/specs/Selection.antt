@@ -1,0 +1,42 @@
+-- What is known of a query once its text was read, its dataset opened and its names found.
+use Rattle.std.specs.Prelude.{◌≡◌, ⊤, ℕ, List, Option, None, IfOk, IfSome, Result, Ok, Err}
+use Rattle.fb_outside.specs.Files.{Files}
+use Rattle.where_plan.specs.Plans.{IsPlan}
+use Rattle.query_grammar.specs.declared.picking.SelectFault.{SelectFault}
+use Rattle.query_grammar.specs.declared.picking.SelectFault.TheVariants as select
+use Rattle.query_grammar.specs.declared.query.Query.{Query}
+use Rattle.query_grammar.specs.Language.{read_query}
+use Rattle.dataset.specs.Found.{Found, There, IsFound}
+use Rattle.statuses.specs.declared.Status.{Status}
+use Rattle.statuses.specs.declared.Status.TheVariants.{BadQuery}
+use Rattle.statuses.specs.declared.stop.Unanswered.{Unanswered}
+use Rattle.statuses.specs.declared.stop.Unanswered.TheVariants.{Refused, StoreFault, OutOfMemory}
+use Rattle.ibis_answer.specs.declared.selecting.Selection.{Selection}
+use Rattle.ibis_answer.specs.Selected.{kind_of_select, misfit, pick_of}
+use Rattle.ibis_answer.specs.Shown.{asked_at}
+
+-- the path has the dataset, whose schema the query fits; what is selected and the plan are the query's
+pub record IsSelection (dir query : List ℕ) (files : Option Files) (selection : Selection) : Type 0 where
+  pub asked : Query
+  pub read : read_query query ≡ Ok asked
+  pub there : IfSome files (λ m. IsFound m dir (There selection.dataset))
+  pub fits : misfit selection.dataset.schema asked ≡ None
+  pub picked : selection.pick ≡ pick_of selection.dataset.schema asked
+  pub planned : IsPlan selection.dataset.schema asked.clause selection.plan
+
+-- what is asked is refused so
+pub record IsDeclined (dir query : List ℕ) (files : Option Files) (status : Status) : Type 0 where
+  pub found : Found
+  pub found_told : IfOk (read_query query) (λ q. IfSome files (λ m. IsFound m dir found))
+  pub is : asked_at dir query found ≡ Err status
+
+abbrev pub Selects : (dir query : List ℕ) → Option Files → Result Selection Unanswered → Type 0
+Selects dir query files (Ok selection) = IsSelection dir query files selection
+Selects dir query files (Err (Refused status)) = IsDeclined dir query files status
+Selects dir query files (Err StoreFault) = ⊤
+Selects dir query files (Err OutOfMemory) = ⊤
+
+-- what the fault of a select list is answered by
+abbrev pub stop_of_select : SelectFault → Unanswered
+stop_of_select (select.Bad kind) = Refused (BadQuery (kind_of_select kind))
+stop_of_select select.OutOfMemory = OutOfMemory

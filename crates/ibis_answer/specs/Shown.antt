@@ -1,0 +1,96 @@
+-- What a query prints of a dataset.
+use Rattle.std.specs.Prelude.{◌≡◌, ℕ, Bool, true, false, List, [], ◌++◌, length, map, filter, Option, Some, None, Result, Ok, Err}
+use Rattle.std.specs.List.{All}
+use Rattle.fb_types.specs.declared.cells.Cell.{Cell}
+use Rattle.where_plan.specs.PlanHolds.{is_asked_for}
+use Rattle.query_grammar.specs.declared.picking.Pick.{Pick}
+use Rattle.query_grammar.specs.declared.query.Query.{Query}
+use Rattle.query_grammar.specs.Language.{read_query}
+use Rattle.select_group.specs.Answer.{answer_of}
+use Rattle.select_group.specs.Printed.{rows_text}
+use Rattle.dataset.specs.Found.{Found, found_in}
+use Rattle.dataset.specs.declared.content.Dataset.{Dataset}
+use Rattle.stages.specs.declared.walk.Bounds.{Bounds}
+use Rattle.world.specs.World.{Content, World, content_at, records_of}
+use Rattle.statuses.specs.declared.Status.{Status}
+use Rattle.statuses.specs.Opening.{dataset_or_refusal}
+use Rattle.statuses.specs.Outcome.{◌>>=◌, Outcome}
+use Rattle.ibis_answer.specs.Answer.{between_in, between_line, checked, checked_line, hits_line, told}
+use Rattle.ibis_answer.specs.Selected.{cells_for, items_of, pick_of, query_in, query_or_refusal}
+
+-- ---- the refusals, whose causes the query and the path have
+
+-- what is asked: a query that fits the dataset
+pub record Asking : Type 0 where
+  pub query : Query
+  pub dataset : Dataset
+
+abbrev pub asking_of : Dataset → Result Query Status → Result Asking Status
+asking_of dataset (Ok q) = Ok (record { query = q; dataset = dataset })
+asking_of dataset (Err status) = Err status
+
+-- what is asked, where neither the query's text, nor what the path has, nor a name is refused, in this order
+unfoldable pub asked_at : (dir query : List ℕ) → Found → Result Asking Status
+asked_at dir query found = do
+  q ← query_or_refusal (read_query query)
+  dataset ← dataset_or_refusal dir found
+  asking_of dataset (query_in dataset.schema q)
+
+-- ---- what is found
+
+-- For each record that is asked for the cells of the select list, none of them without a list; and how many pairs of a condition
+-- and a candidate of it were checked by values.
+pub record Taken : Type 0 where
+  pub rows : List (List Cell)
+  pub checked : ℕ
+
+-- a cell for each item
+abbrev pub IsTaken : Option Pick → Taken → Type 0
+IsTaken picked taken = All (λ row. length row ≡ length (items_of picked)) taken.rows
+
+abbrev pub taken_in : Query → Content → Taken
+taken_in q content = record {
+  rows = map (cells_for (items_of (pick_of content.schema q))) (filter (is_asked_for q.clause content.schema) (records_of content));
+  checked = checked q.clause content;
+}
+
+-- ---- what is printed of it
+
+-- the rows of the answer: those of the records or of their groups, in order, as far as the limit; none without a select list
+abbrev pub shown_rows : Option Pick → List (List Cell) → List (List Cell)
+shown_rows None rows = []
+shown_rows (Some p) rows = answer_of p rows
+
+abbrev pub checks_text : Bool → ℕ → List ℕ
+checks_text true count = checked_line count
+checks_text false count = []
+
+-- how many records are asked for, before grouping and limit; the rows as records of CSV; the checks, where they are to be told
+unfoldable pub shown_text : Bool → Option Pick → Taken → List ℕ
+shown_text tell picked taken =
+    hits_line (length taken.rows) ++ (rows_text (shown_rows picked taken.rows) ++ checks_text tell taken.checked)
+
+-- ---- in a world
+
+-- where the path has no dataset the query is refused before
+abbrev pub text_in : Bool → Query → Option Content → List ℕ
+text_in tell q None = []
+text_in tell q (Some content) = shown_text tell (pick_of content.schema q) (taken_in q content)
+
+abbrev pub bounds_in : Query → Option Content → Bounds
+bounds_in q content = between_in q.clause content
+
+abbrev pub given_of : {A : Type 0} → (Query → Option Content → A) → Result Asking Status → Option Content → Result A Status
+given_of given (Ok asking) content = Ok (given asking.query content)
+given_of given (Err status) content = Err status
+
+-- what is asked for of the path's dataset, or the refusal
+abbrev pub given_in : {A : Type 0} → (Query → Option Content → A) → (dir query : List ℕ) → World → Result A Status
+given_in given dir query world = given_of given (asked_at dir query (found_in world dir)) (content_at world dir)
+
+-- a question, and an estimate, which looks at the clause alone though each name has to fit
+abbrev pub question_outcome : (dir query : List ℕ) → (tell : Bool) → World → Outcome
+question_outcome dir query tell world = told (λ text. text) (given_in (text_in tell) dir query world)
+
+abbrev pub bounds_outcome : (dir query : List ℕ) → World → Outcome
+bounds_outcome dir query world = told between_line (given_in bounds_in dir query world)

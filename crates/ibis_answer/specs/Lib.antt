@@ -1,11 +1,8 @@
 pub mod Query
 pub mod Answer
-pub mod Causes
-pub mod Looks
 pub mod Asked
-pub mod Selected
-pub mod Shown
-pub mod ShownCauses
-pub mod ShownLooks
-pub mod SelectSamples
-pub mod Selection
+pub mod Causes
+pub mod Pieces
+pub mod Rows
+pub mod Looks
+pub mod Samples

@@ -1,22 +1,25 @@
-//! What `ibis -q` and `ibis -e` answer: how many records of a dataset a query's clause asks for, and between which two numbers
-//! that is by the bins of its columns.
+//! What `ibis -q` prints and `ibis -e` answers: how many records of a dataset a query asks for and what it selects of them, and between
+//! which two numbers their number is by the bins of the columns.
 //!
-//! The query's text is read first, then the dataset is opened, then the names of the clause are looked up; `query_engine`
-//! answers the plan that this gives.
+//! The query's text is read first, then the dataset is opened, then the names are looked up; `query_engine` answers the plan that
+//! this gives, `selected_cells` reads what is selected of the records, and `select_group` groups, orders and prints it.
 #![tactic(auto)]
 
-mod answering;
-mod asking;
+mod estimating;
 mod laws;
+mod printing;
+mod rows;
 mod selecting;
 mod showing;
+mod unprinted;
 
-pub use answering::{Counted, answer, estimate};
+pub use estimating::estimate;
 pub use laws::{
-    an_estimate_encloses_its_answer, the_names_of_queries, the_picks_of_queries,
-    the_texts_of_answers, the_texts_of_queries,
+    an_estimate_encloses_its_answer, the_lines_of_answers, the_names_of_queries,
+    the_picks_of_queries, the_texts_of_queries,
 };
-pub use showing::{Unprinted, print_answer};
+pub use showing::print_answer;
+pub use unprinted::Unprinted;
 
 #[cfg(test)]
 mod sample_files;

@@ -10,20 +10,19 @@ ghost use Rattle.dataset.specs.Opened.{IsDataset};
 ghost use Rattle.query_grammar.specs.Language.{read_query};
 ghost use Rattle.query_grammar.specs.Picks.{IsSoundPick};
 ghost use Rattle.where_plan.specs.Plans.{FitsSchema};
-ghost use Rattle.ibis_answer.specs.Asked.{stop_of_name, stop_of_text};
-ghost use Rattle.ibis_answer.specs.Selected.{kind_of_select};
-ghost use Rattle.ibis_answer.specs.Selection.{Selects, stop_of_select};
-ghost use Rattle.ibis_answer.specs.ShownLooks.{IsOpeningOf};
+ghost use Rattle.ibis_answer.specs.Asked.{Selects, stop_of_ask, stop_of_name, stop_of_select, stop_of_text};
+ghost use Rattle.ibis_answer.specs.Looks.{IsOpeningOf};
+ghost use Rattle.ibis_answer.specs.Query.{kind_of_select};
 
-use crate::asking::{bad_query, stop_of_name, stop_of_text};
 use dataset::Dataset;
 use fb_outside::{FileName, Store};
 use fb_types::Label;
+use query_engine::AskFault;
 use query_grammar::{Pick, SelectFault, SelectKind, parse_query, resolve_select};
-use statuses::{Unanswered, opened};
+use statuses::{Status, Unanswered, damaged, opened};
 use std::alloc::Global;
-use where_grammar::QueryKind;
-use where_plan::{Plan, resolve};
+use where_grammar::{ClauseFault, QueryKind};
+use where_plan::{NameFault, Plan, resolve};
 
 /// A dataset, the plan that is asked of it, and what is shown of its records; None where only their number is.
 #[derive(Drop)]
@@ -78,6 +77,15 @@ pub(crate) fn selected<S: Store>(
     }
 }
 
+fn stop_of_text(fault: ClauseFault) -> Unanswered
+    ensures { result ≡ stop_of_text fault }
+{
+    match fault {
+        ClauseFault::Bad { kind } => bad_query(kind),
+        ClauseFault::OutOfMemory => Unanswered::OutOfMemory,
+    }
+}
+
 fn stop_of_select(fault: SelectFault) -> Unanswered
     ensures { result ≡ stop_of_select fault }
 {
@@ -94,5 +102,36 @@ fn kind_of_select(kind: SelectKind) -> QueryKind
         SelectKind::Unknown(name) => QueryKind::Unknown(name),
         SelectKind::WrongType(name) => QueryKind::WrongType(name),
         SelectKind::NotSelected => QueryKind::NotSelected,
+    }
+}
+
+fn stop_of_name(fault: NameFault) -> Unanswered
+    ensures { result ≡ stop_of_name fault }
+{
+    match fault {
+        NameFault::Bad { kind } => bad_query(kind),
+        NameFault::OutOfMemory => Unanswered::OutOfMemory,
+    }
+}
+
+fn bad_query(kind: QueryKind) -> Unanswered
+    ensures { result ≡ Unanswered.Refused (Status.BadQuery kind) }
+{
+    Unanswered::Refused(Status::BadQuery { kind })
+}
+
+/// What a plan or a column that isn't answered is answered by.
+pub(crate) fn stop_of_ask(fault: AskFault) -> Unanswered
+    ensures { result ≡ stop_of_ask fault }
+{
+    match fault {
+        AskFault::Damaged {
+            file,
+            kind,
+            want,
+            have,
+        } => damaged(file, kind, want, have),
+        AskFault::Store => Unanswered::StoreFault,
+        AskFault::OutOfMemory => Unanswered::OutOfMemory,
     }
 }

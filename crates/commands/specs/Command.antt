@@ -10,7 +10,7 @@ use Rattle.statuses.specs.declared.Status.TheVariants.{Usage}
 use Rattle.statuses.specs.Outcome.{Outcome, refused}
 use Rattle.ardea.specs.Load.{load_outcome}
 use Rattle.ibis.specs.Listing.{list_outcome}
-use Rattle.ibis_answer.specs.Answer.{answer_outcome, estimate_outcome}
+use Rattle.ibis_answer.specs.Answer.{estimate_outcome, question_outcome}
 use Rattle.ibis_build.specs.Builds.{build_outcome}
 
 -- a load, a question, an estimate, a request for indexes, a listing; and words that are no request, or ask for what isn't there as yet
@@ -40,7 +40,7 @@ command_of (Some (Gen rows seed)) = Unknown
 -- what a command answers and does in a world, with this input
 abbrev pub command_outcome : Command → List ℕ → World → Outcome
 command_outcome (Loads load) input world = load_outcome load input world
-command_outcome (Answers dir query tell) input world = answer_outcome dir query tell world
+command_outcome (Answers dir query tell) input world = question_outcome dir query tell world
 command_outcome (Estimates dir query) input world = estimate_outcome dir query world
 command_outcome (Builds dir text list) input world = build_outcome dir text list world
 command_outcome (Lists dir) input world = list_outcome dir world

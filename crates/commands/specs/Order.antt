@@ -4,7 +4,7 @@ use Rattle.fb_outside.specs.Streams.{ForSomeInput}
 use Rattle.statuses.specs.declared.Status.{Status}
 use Rattle.statuses.specs.declared.Status.TheVariants.{ReadFault, StoreFault}
 use Rattle.ardea.specs.Order.{load_asks_store, load_takes_input}
-use Rattle.ibis_answer.specs.Query.{read_clause}
+use Rattle.query_grammar.specs.Language.{read_query}
 use Rattle.index_spec.specs.Language.{spec_of}
 use Rattle.commands.specs.Command.{Command, Loads, Answers, Estimates, Builds, Lists, Unknown}
 
@@ -21,8 +21,8 @@ takes_input Unknown = false
 -- for indexes whose text isn't, a listing.
 abbrev pub asks_store : Command → List ℕ → Bool
 asks_store (Loads load) input = load_asks_store load input
-asks_store (Answers dir query tell) input = is_ok (read_clause query)
-asks_store (Estimates dir query) input = is_ok (read_clause query)
+asks_store (Answers dir query tell) input = is_ok (read_query query)
+asks_store (Estimates dir query) input = is_ok (read_query query)
 asks_store (Builds dir text list) input = is_ok (spec_of text)
 asks_store (Lists dir) input = true
 asks_store Unknown input = false

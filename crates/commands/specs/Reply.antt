@@ -30,3 +30,9 @@ RepliesBy false reply status old new = (status ≡ reply.status) × Grows old ne
 -- sink had written before and after.
 abbrev pub Replies : Outcome → Status → Option (List ℕ) → Option (List ℕ) → Type 0
 Replies reply status old new = RepliesBy (is_fault status) reply status old new
+
+-- The text was printed and the command ends so; or printing failed, with a front of the text; or memory ran out before it.
+abbrev pub Prints : Status → List ℕ → Option (List ℕ) → Option (List ℕ) → Status → Type 0
+Prints done text old new status =
+    ((status ≡ done) × Grows old new text)
+    ⊎ (((status ≡ SinkFault) × GrowsInPart old new text) ⊎ ((status ≡ OutOfMemory) × (new ≡ old)))

@@ -23,16 +23,10 @@ use Rattle.ibis_build.specs.Leaves.{LeavesBuilt}
 use Rattle.world.specs.World.{World}
 use Rattle.world.specs.Stands.{StandsFor}
 use Rattle.commands.specs.Command.{Command, command_outcome}
-use Rattle.commands.specs.Causes.{ComesTo}
+use Rattle.commands.specs.Causes.{ComesTo, EndsEarlyIn}
 use Rattle.commands.specs.Effects.{IsOfCommand, KeepsRefused, LeavesAfter}
-use Rattle.commands.specs.Order.{asks_store, takes_input}
-use Rattle.commands.specs.Reply.{is_fault}
-
--- The text was printed and the command ends so; or printing failed, with a front of the text; or memory ran out before it.
-abbrev pub Prints : Status → List ℕ → Option (List ℕ) → Option (List ℕ) → Status → Type 0
-Prints done text old new status =
-    ((status ≡ done) × Grows old new text)
-    ⊎ (((status ≡ SinkFault) × GrowsInPart old new text) ⊎ ((status ≡ OutOfMemory) × (new ≡ old)))
+use Rattle.commands.specs.Order.{Yields, asks_store, takes_input}
+use Rattle.commands.specs.Reply.{Prints, is_fault}
 
 -- the same status and text
 pub record SaysSame (reply other : Outcome) : Type 0 where
@@ -44,7 +38,12 @@ abbrev pub IsReplyIn : Command → Option (List ℕ) → Option Files → Outcom
 IsReplyIn command left files reply =
     ForSomeInput left (λ input. (world : World) → StandsFor files world → SaysSame reply (command_outcome command input world))
 
--- The command came to a reply, which was printed; or it stopped before it printed.
+-- where the files stand for a world, a front of the definition's text was printed; or the files stand for none
+abbrev pub IsEarlyIn : Command → Option (List ℕ) → Option Files → Status → (old new : Option (List ℕ)) → Type 0
+IsEarlyIn command left files status old new =
+    ForSomeInput left (λ input. (world : World) → StandsFor files world → (is_fault status ≡ true) × GrowsInPart old new (command_outcome command input world).text)
+
+-- The command came to a reply, which was printed; or it stopped before it printed, or early while it did.
 pub data Runs (command : Command) (left : Option (List ℕ)) (files : Option Files) (before after : Option (List ℕ)) (status : Status) : Type 0 where
   Replied : (reply : Outcome) → ComesTo command left files reply → IsReplyIn command left files reply
       → is_fault reply.status ≡ false → Prints reply.status reply.text before after status → Runs command left files before after status
@@ -52,6 +51,8 @@ pub data Runs (command : Command) (left : Option (List ℕ)) (files : Option Fil
   Unstored : ForSomeInput left (λ input. asks_store command input ≡ true) → after ≡ before → status ≡ StoreFault
       → Runs command left files before after status
   Stops : after ≡ before → status ≡ OutOfMemory → Runs command left files before after status
+  Early : EndsEarlyIn command (ComesTo command left files) status before after → IsEarlyIn command left files status before after
+      → Yields command left status → Runs command left files before after status
 
 -- A load went through, or was refused, and this was printed; or it stopped before it printed.
 pub data LoadRuns (load : Load) (left : Option (List ℕ)) (old new : Option Files) (before after : Option (List ℕ)) (status : Status) : Type 0 where

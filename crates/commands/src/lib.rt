@@ -16,7 +16,7 @@ ghost use Rattle.world.specs.Stands.{StandsFor};
 ghost use Rattle.commands.specs.Command.{command_of, command_outcome};
 ghost use Rattle.commands.specs.Reply.{Replies, is_fault};
 ghost use Rattle.commands.specs.Effects.{IsOfCommand, KeepsRefused, LeavesAfter};
-ghost use Rattle.commands.specs.Causes.{ComesTo, HasCauseIn, Says};
+ghost use Rattle.commands.specs.Causes.{ComesTo, CommandSays, HasCauseIn};
 ghost use Rattle.commands.specs.Looks.{IsLookOf, ReadsAllowed, TakesSteps};
 ghost use Rattle.commands.specs.Order.{Yields, takes_input};
 ghost use Rattle.commands.specs.Runs.{LoadRuns};
@@ -62,14 +62,14 @@ pub fn run_command<I: Source, S: Store, K: Sink, L: Ledger>(
         → KeepsRefused (command_of asked.now) (S.files store.old) (S.files store.new) }
 
     // Each added read is of a file of that command, as it finds the files. Where they stand for a world, a question and an
-    // estimate read what their clause needs, and take few steps.
+    // estimate read what their clause needs and what is selected, and take few steps.
     ensures reads { AddsOnly (IsLookOf (command_of asked.now) (S.files store.old)) (S.reads store.old) (S.reads store.new) }
     ensures allowed { ReadsAllowed (command_of asked.now) (S.files store.old) (S.reads store.old) (S.reads store.new) result }
     ensures steps { TakesSteps (command_of asked.now) (S.files store.old) steps.old steps.new }
 
     // Each status has its cause, and what it comes to is printed.
     ensures causes { HasCauseIn (ComesTo (command_of asked.now) (I.left input.old) (S.files store.old)) result }
-    ensures prints { Says (ComesTo (command_of asked.now) (I.left input.old) (S.files store.old)) result
+    ensures prints { CommandSays (command_of asked.now) (I.left input.old) (S.files store.old) result
         (K.written out.old) (K.written out.new) }
 
     // A failure of the outside is told, as such and only then, and yields to each refusal that stands before it.
@@ -108,7 +108,7 @@ fn run_job<I: Source, S: Store, K: Sink, L: Ledger>(
     ensures allowed { ReadsAllowed (command_of (Some job.now)) (S.files store.old) (S.reads store.old) (S.reads store.new) result }
     ensures steps { TakesSteps (command_of (Some job.now)) (S.files store.old) steps.old steps.new }
     ensures causes { HasCauseIn (ComesTo (command_of (Some job.now)) (I.left input.old) (S.files store.old)) result }
-    ensures prints { Says (ComesTo (command_of (Some job.now)) (I.left input.old) (S.files store.old)) result
+    ensures prints { CommandSays (command_of (Some job.now)) (I.left input.old) (S.files store.old) result
         (K.written out.old) (K.written out.new) }
     ensures read_cause { HasCause (I.faults input.old) (I.faults input.new) (result ≡ Status.ReadFault) }
     ensures store_cause { HasCause (S.faults store.old) (S.faults store.new) (result ≡ Status.StoreFault) }

@@ -1,16 +1,14 @@
 //! What a command prints.
 
-ghost use Rattle.std.specs.Prelude.{◌≡◌, ◌++◌, false, IfOk, string_bytes};
+ghost use Rattle.std.specs.Prelude.{◌≡◌, false, IfOk, string_bytes};
 ghost use Rattle.fb_outside.specs.Causes.{HasCause};
 ghost use Rattle.statuses.specs.Lines.{line_of};
 ghost use Rattle.ardea.specs.Load.{loaded_line};
-ghost use Rattle.ibis_answer.specs.Answer.{answer_text, between_line, checked_line, hits_line};
+ghost use Rattle.ibis_answer.specs.Answer.{between_line};
 ghost use Rattle.ibis_build.specs.Builds.{built_line};
-ghost use Rattle.commands.specs.Reply.{is_fault};
-ghost use Rattle.commands.specs.Runs.{Prints};
+ghost use Rattle.commands.specs.Reply.{Prints, is_fault};
 
 use fb_outside::{Sink, Trouble};
-use ibis_answer::Counted;
 use stages::Bounds;
 use statuses::Status;
 use std::alloc::{AllocError, Global};
@@ -43,46 +41,6 @@ fn loaded_text(alloc: Global, rows: u64) -> Result<String, AllocError>
     ensures { IfOk result (λ line. string_bytes line ≡ loaded_line rows) }
 {
     format!(in alloc; "loaded {rows} rows\n")
-}
-
-/// Prints how many records were asked for, and how many were checked where it is to be told.
-pub(crate) fn print_counted<K: Sink>(
-    alloc: Global,
-    out: &mut K,
-    counted: Counted,
-    tell: bool,
-) -> Status
-    ensures cause { HasCause (K.faults out.old) (K.faults out.new) (result ≡ Status.SinkFault) }
-    ensures prints { Prints Status.Done (answer_text tell counted) (K.written out.old) (K.written out.new) result }
-{
-    match counted_text(alloc, counted, tell) {
-        Ok(text) => print_text(out, text.as_bytes(), Status::Done),
-        Err(_) => Status::OutOfMemory,
-    }
-}
-
-fn counted_text(alloc: Global, counted: Counted, tell: bool) -> Result<String, AllocError>
-    ensures { IfOk result (λ text. string_bytes text ≡ answer_text tell counted) }
-{
-    if tell {
-        checked_text(alloc, counted.hits, counted.checked)
-    } else {
-        hits_text(alloc, counted.hits)
-    }
-}
-
-#[tactic(auto, unfolding(ibis_answer::specs::Answer::hits_line))]
-fn hits_text(alloc: Global, hits: u64) -> Result<String, AllocError>
-    ensures { IfOk result (λ line. string_bytes line ≡ hits_line hits) }
-{
-    format!(in alloc; "hits {hits}\n")
-}
-
-#[tactic(auto, unfolding(ibis_answer::specs::Answer::hits_line, ibis_answer::specs::Answer::checked_line))]
-fn checked_text(alloc: Global, hits: u64, checked: u64) -> Result<String, AllocError>
-    ensures { IfOk result (λ text. string_bytes text ≡ hits_line hits ++ checked_line checked) }
-{
-    format!(in alloc; "hits {hits}\nchecked {checked}\n")
 }
 
 /// Prints between which two numbers the records are that were asked for.

@@ -7,18 +7,18 @@ ghost use Rattle.fb_outside.specs.Names.{IsPath};
 ghost use Rattle.fb_outside.specs.Reads.{AddsOnly};
 ghost use Rattle.command_words.specs.Valid.{IsValidTask};
 ghost use Rattle.ibis.specs.Looks.{IsListLook};
-ghost use Rattle.ibis_answer.specs.Looks.{IsAnswerLook};
+ghost use Rattle.ibis_answer.specs.Looks.{IsBoundsLook, IsQueryLook};
 ghost use Rattle.ibis_build.specs.Looks.{IsBuildLook};
 ghost use Rattle.commands.specs.Command.{Answers, Estimates, Lists, command_of_task};
 ghost use Rattle.commands.specs.Looks.{IsLookOf, ReadsAllowed, TakesSteps};
 ghost use Rattle.commands.specs.Runs.{BuildRuns, Leaves, Runs};
 
-use crate::printing::{print_bounds, print_built, print_counted, print_text, refuse};
+use crate::printing::{print_bounds, print_built, print_text, refuse};
 use command_words::Task;
 use fb_outside::{FileName, Sink, Store};
 use fb_types::Label;
 use ibis::list;
-use ibis_answer::{answer, estimate};
+use ibis_answer::{Unprinted, estimate, print_answer};
 use ibis_build::build_indexes;
 use statuses::{Status, Unanswered};
 use std::alloc::Global;
@@ -54,8 +54,8 @@ pub(crate) fn run_task<S: Store, K: Sink, L: Ledger>(
     }
 }
 
-/// Prints how many records a query asks for, and, where it is to be told, how many pairs of a condition and a record were
-/// checked by values.
+/// Prints how many records a query asks for, the rows of its select list, and, where it is to be told, how many pairs of a condition
+/// and a record were checked by values.
 fn run_answer<S: Store, K: Sink, L: Ledger>(
     alloc: Global,
     dir: &FileName,
@@ -70,17 +70,19 @@ fn run_answer<S: Store, K: Sink, L: Ledger>(
     ensures runs { (left : Option (List ℕ)) → Runs (Answers dir.now query.now tell) left (S.files store.old)
         (K.written out.old) (K.written out.new) result }
     ensures files { SameFiles (S.files store.old) (S.files store.new) }
-    ensures reads { AddsOnly (IsAnswerLook dir.now query.now) (S.reads store.old) (S.reads store.new) }
+    ensures reads { AddsOnly (IsQueryLook dir.now query.now) (S.reads store.old) (S.reads store.new) }
     ensures allowed { ReadsAllowed (Answers dir.now query.now tell) (S.files store.old) (S.reads store.old) (S.reads store.new) result }
     ensures steps { TakesSteps (Answers dir.now query.now tell) (S.files store.old) steps.old steps.new }
     ensures store_cause { HasCause (S.faults store.old) (S.faults store.new) (result ≡ Status.StoreFault) }
     ensures print_cause { HasCause (K.faults out.old) (K.faults out.new) (result ≡ Status.SinkFault) }
 {
-    match answer(alloc, dir, query, store, steps) {
-        Ok(counted) => print_counted(alloc, out, counted, tell),
-        Err(Unanswered::Refused(status)) => refuse(alloc, out, status),
-        Err(Unanswered::StoreFault) => Status::StoreFault,
-        Err(Unanswered::OutOfMemory) => Status::OutOfMemory,
+    match print_answer(alloc, dir, query, tell, store, out, steps) {
+        Ok(()) => Status::Done,
+        Err(Unprinted::Refused(status)) => refuse(alloc, out, status),
+        Err(Unprinted::BrokenOff(status)) => refuse(alloc, out, status),
+        Err(Unprinted::StoreFault) => Status::StoreFault,
+        Err(Unprinted::SinkFault) => Status::SinkFault,
+        Err(Unprinted::OutOfMemory) => Status::OutOfMemory,
     }
 }
 
@@ -98,7 +100,7 @@ fn run_estimate<S: Store, K: Sink, L: Ledger>(
     ensures runs { (left : Option (List ℕ)) → Runs (Estimates dir.now query.now) left (S.files store.old)
         (K.written out.old) (K.written out.new) result }
     ensures files { SameFiles (S.files store.old) (S.files store.new) }
-    ensures reads { AddsOnly (IsAnswerLook dir.now query.now) (S.reads store.old) (S.reads store.new) }
+    ensures reads { AddsOnly (IsBoundsLook dir.now query.now) (S.reads store.old) (S.reads store.new) }
     ensures allowed { ReadsAllowed (Estimates dir.now query.now) (S.files store.old) (S.reads store.old) (S.reads store.new) result }
     ensures steps { TakesSteps (Estimates dir.now query.now) (S.files store.old) steps.old steps.new }
     ensures store_cause { HasCause (S.faults store.old) (S.faults store.new) (result ≡ Status.StoreFault) }

@@ -10,7 +10,7 @@ use Rattle.statuses.specs.declared.Status.{Status}
 use Rattle.statuses.specs.declared.Status.TheVariants.{Done, ReadFault, OutOfMemory}
 use Rattle.statuses.specs.Outcome.{Outcome, refused}
 use Rattle.commands.specs.Command.{Command, command_of, command_outcome}
-use Rattle.commands.specs.Causes.{ComesTo, Says}
+use Rattle.commands.specs.Causes.{ComesTo, CommandSays, Says}
 use Rattle.commands.specs.Effects.{IsOfCommand, KeepsRefused}
 use Rattle.commands.specs.Looks.{IsLookOf, ReadsAllowed, TakesSteps}
 use Rattle.commands.specs.Order.{Yields}
@@ -95,7 +95,7 @@ pub data SessionRuns (left now : Option (List ℕ)) (old new : Outside) (status 
 -- how it ran: a session line by line, a command by itself with what it comes to printed
 abbrev pub AskedRuns : Asked → (left now : Option (List ℕ)) → Outside → Outside → Status → Type 0
 AskedRuns OfSession left now old new status = SessionRuns left now old new status
-AskedRuns (Of command) left now old new status = Says (ComesTo command left old.files) status old.written new.written
+AskedRuns (Of command) left now old new status = CommandSays command left old.files status old.written new.written
 
 -- ---- of a command by itself; a session's lines say it each for itself
 

@@ -15,7 +15,7 @@ use Rattle.statuses.specs.declared.Status.{Status}
 use Rattle.statuses.specs.declared.Status.TheVariants.{Done, Limit, ReadFault, OutOfMemory}
 use Rattle.statuses.specs.Outcome.{Outcome, refused}
 use Rattle.commands.specs.Command.{Command, Unknown, command_of, command_outcome}
-use Rattle.commands.specs.Causes.{ComesTo, HasCauseIn, Says}
+use Rattle.commands.specs.Causes.{ComesTo, CommandSays, HasCauseIn}
 use Rattle.commands.specs.Effects.{IsOfCommand, KeepsRefused, LeavesAfter}
 use Rattle.commands.specs.Looks.{IsLookOf, ReadsAllowed, TakesSteps}
 use Rattle.commands.specs.Order.{Yields}
@@ -107,7 +107,7 @@ pub record CommandRuns (command : Command) (left : Option (List ℕ)) (old new :
   pub replies : (world : World) → StandsFor old.files world → Replies (command_outcome command [] world) status old.written new.written
   pub leaves : (world : World) → StandsFor old.files world → LeavesAfter (command_outcome command [] world).effects world status new.files
   pub causes : HasCauseIn (ComesTo command left old.files) status
-  pub prints : Says (ComesTo command left old.files) status old.written new.written
+  pub prints : CommandSays command left old.files status old.written new.written
   pub kept : ChangesAmong (IsOfCommand command) old.files new.files
   pub refused : is_fault status ≡ false → status ≢ Done → KeepsRefused command old.files new.files
   pub reads : AddsOnly (IsLookOf command old.files) old.reads new.reads

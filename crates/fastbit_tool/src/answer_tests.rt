@@ -64,9 +64,14 @@ const REFUSED: &[Row] = &[
         "error 6 query Syntax\n",
     ),
     (
-        &["ibis", "-d", "D", "-q", "select a"],
+        &["ibis", "-d", "D", "-q", "select z"],
         6,
-        "error 6 query Syntax\n",
+        "error 6 query Unknown z\n",
+    ),
+    (
+        &["ibis", "-d", "D", "-e", "select a order by b"],
+        6,
+        "error 6 query NotSelected\n",
     ),
     (
         &["ibis", "-d", "E", "-e", "where a < 4"],

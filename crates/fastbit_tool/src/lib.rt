@@ -100,4 +100,6 @@ mod answer_tests;
 #[cfg(test)]
 mod listing_tests;
 #[cfg(test)]
+mod select_tests;
+#[cfg(test)]
 mod tests;

@@ -37,16 +37,16 @@ fn answer<L: Ledger>(
 
 /// What is run, and what its status's number and its printed text must be.
 #[derive(Drop)]
-struct Case<'a> {
-    words: &'static [&'static str],
-    input: &'a [u8],
-    source_fails: &'static [u64],
-    sink_fails: &'static [u64],
-    code: u8,
-    printed: &'static str,
+pub(crate) struct Case<'a> {
+    pub(crate) words: &'static [&'static str],
+    pub(crate) input: &'a [u8],
+    pub(crate) source_fails: &'static [u64],
+    pub(crate) sink_fails: &'static [u64],
+    pub(crate) code: u8,
+    pub(crate) printed: &'a str,
 }
 
-fn expect<R: Abort + AllocGlobal>(
+pub(crate) fn expect<R: Abort + AllocGlobal>(
     rt: &R,
     blank: Blank,
     store: &mut MemStore,
@@ -72,7 +72,7 @@ fn make_case<'a>(
     words: &'static [&'static str],
     input: &'a [u8],
     code: u8,
-    printed: &'static str,
+    printed: &'a str,
 ) -> Case<'a> {
     Case {
         words,

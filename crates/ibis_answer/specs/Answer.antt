@@ -102,6 +102,10 @@ abbrev pub text_in : Bool → Query → Option Content → List ℕ
 text_in tell q None = []
 text_in tell q (Some content) = shown_text tell (pick_of content.schema q) (taken_in q content)
 
+abbrev pub hits_in : Query → Option Content → ℕ
+hits_in q None = 0
+hits_in q (Some content) = length (taken_in q content).rows
+
 abbrev pub bounds_in : Query → Option Content → Bounds
 bounds_in q None = record { definite = 0; possible = 0 }
 bounds_in q (Some content) = record { definite = definite q.clause content; possible = possible q.clause content }

@@ -7,33 +7,32 @@ ghost use Rattle.where_grammar.specs.declared.clause.QueryKind.TheVariants.{NotS
 ghost use Rattle.query_grammar.specs.declared.picking.Pick.{Pick};
 ghost use Rattle.query_grammar.specs.declared.query.Item.TheVariants.{CountAll, Plain, Sum};
 ghost use Rattle.query_grammar.specs.declared.query.Query.{Query};
+ghost use Rattle.query_grammar.specs.Language.{read_query};
 ghost use Rattle.query_grammar.specs.Picks.{IsPickOf};
 ghost use Rattle.stages.specs.declared.walk.Bounds.{Bounds};
 ghost use Rattle.statuses.specs.declared.Status.TheVariants.{BadQuery};
 ghost use Rattle.world.specs.Stands.{Stands};
 ghost use Rattle.world.specs.World.{World};
-ghost use Rattle.ibis_answer.specs.Answer.{answer_text, asked_in, between_in, between_line, counted_in};
-ghost use Rattle.ibis_answer.specs.SelectSamples.{by_item, falling_by, four_records, selecting, two_columns};
-ghost use Rattle.ibis_answer.specs.Selected.{pick_of, query_in};
-ghost use Rattle.ibis_answer.specs.Shown.{shown_text, text_in};
-ghost use Rattle.ibis_answer.specs.declared.answering.Counted.{Counted};
+ghost use Rattle.ibis_answer.specs.Answer.{bounds_in, between_line, checked_line, given_in, hits_in, hits_line, shown_text, text_in};
+ghost use Rattle.ibis_answer.specs.Samples.{by_item, falling_by, four_records, selecting, two_columns};
+ghost use Rattle.ibis_answer.specs.Query.{pick_of, query_in};
 
 use query_engine::estimates_enclose_hits;
 
-/// The two numbers of an estimate enclose the hits of the same query in the same world.
+/// The two numbers of an estimate enclose the hits of each question with the same clause in the same world.
 pub fn an_estimate_encloses_its_answer()
-    ensures { (files : Files) (world : World) (dir query : List ℕ) (counted : Counted) (bounds : Bounds)
-        → Stands files world → asked_in counted_in dir query world ≡ Ok counted
-        → asked_in between_in dir query world ≡ Ok bounds
-        → (bounds.definite ≤ counted.hits) × (counted.hits ≤ bounds.possible) }
+    ensures { (files : Files) (world : World) (dir query other : List ℕ) (q p : Query) (hits : ℕ) (bounds : Bounds)
+        → Stands files world → read_query query ≡ Ok q → read_query other ≡ Ok p → q.clause ≡ p.clause
+        → given_in hits_in dir query world ≡ Ok hits → given_in bounds_in dir other world ≡ Ok bounds
+        → (bounds.definite ≤ hits) × (hits ≤ bounds.possible) }
 {
     estimates_enclose_hits();
 }
 
-/// The lines that are told of the numbers.
-pub fn the_texts_of_answers()
-    ensures hits { answer_text false (record { hits = 5; checked = 3 }) ≡ codes "hits 5\n" }
-    ensures checked { answer_text true (record { hits = 5; checked = 3 }) ≡ codes "hits 5\nchecked 3\n" }
+/// The lines that are told of numbers.
+pub fn the_lines_of_answers()
+    ensures hits { hits_line 5 ≡ codes "hits 5\n" }
+    ensures checked { checked_line 3 ≡ codes "checked 3\n" }
     ensures between { between_line (record { definite = 4; possible = 7 }) ≡ codes "between 4 and 7\n" }
 {}
 

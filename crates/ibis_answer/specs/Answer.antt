@@ -1,7 +1,7 @@
 -- What a query answers of a dataset: the refusals, the rows and numbers, and what is printed of them.
 use Rattle.std.specs.Prelude.{◌≡◌, ℕ, Bool, true, false, List, [], ◌++◌, length, decimal, map, filter, Option, Some, None, Result, Ok, Err}
 use lib.Chars.{codes}
-use Rattle.std.specs.List.{All}
+use Rattle.std.specs.List.{AllByRecursion}
 use Rattle.fb_types.specs.declared.cells.Cell.{Cell}
 use Rattle.where_grammar.specs.declared.clause.Clause.{Clause}
 use Rattle.where_plan.specs.PlanHolds.{is_asked_for}
@@ -51,7 +51,7 @@ pub record Taken : Type 0 where
 
 -- a cell for each item
 abbrev pub IsTaken : Option Pick → Taken → Type 0
-IsTaken picked taken = All (λ row. length row ≡ length (items_of picked)) taken.rows
+IsTaken picked taken = AllByRecursion (λ row. length row ≡ length (items_of picked)) taken.rows
 
 -- over the parts, how many pairs of a condition and a candidate of it are checked by values
 abbrev pub checked : Option Clause → Content → ℕ
@@ -90,10 +90,13 @@ abbrev pub checks_text : Bool → ℕ → List ℕ
 checks_text true count = checked_line count
 checks_text false count = []
 
--- how many records are asked for, before grouping and limit; the rows as records of CSV; the checks, where they are to be told
-unfoldable pub shown_text : Bool → Option Pick → Taken → List ℕ
-shown_text tell picked taken =
-    hits_line (length taken.rows) ++ (rows_text (shown_rows picked taken.rows) ++ checks_text tell taken.checked)
+-- how many records are asked for, the rows as records of CSV, and the checks, where they are to be told
+unfoldable pub answer_text : Bool → (hits : ℕ) → List (List Cell) → (checks : ℕ) → List ℕ
+answer_text tell hits rows checks = hits_line hits ++ (rows_text rows ++ checks_text tell checks)
+
+-- the hits are those before grouping and limit
+abbrev pub shown_text : Bool → Option Pick → Taken → List ℕ
+shown_text tell picked taken = answer_text tell (length taken.rows) (shown_rows picked taken.rows) taken.checked
 
 -- ---- in a world
 

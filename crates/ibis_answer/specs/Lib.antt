@@ -4,5 +4,6 @@ pub mod Asked
 pub mod Causes
 pub mod Pieces
 pub mod Rows
+pub mod Ready
 pub mod Looks
 pub mod Samples

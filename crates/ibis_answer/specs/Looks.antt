@@ -1,18 +1,23 @@
 -- What a question and an estimate read, and the steps that they take.
-use Rattle.std.specs.Prelude.{◌≡◌, ◌⊎◌, ◌<◌, ◌+◌, ◌*◌, ℕ, Bool, true, ◌||◌, List, length, Option, Some, Result, Ok, IsOkAnd, sum_by}
+use Rattle.std.specs.Prelude.{◌≡◌, ◌⊎◌, ◌<◌, ◌+◌, ◌*◌, ℕ, Bool, true, ◌||◌, List, length, Option, Some, Result, Ok, IsOkAnd, slice_get, slice_index_or, sum_by}
 use Rattle.std.specs.List.{list_any}
 use Rattle.std.specs.Str.{bytes_eq}
 use Rattle.fb_outside.specs.Files.{Files}
 use Rattle.fb_outside.specs.Reads.{AddsOnly, Look}
 use Rattle.part_meta.specs.FileNames.{catalog_name, file_name, part_name}
 use Rattle.part_meta.specs.declared.names.FileKind.{FileKind}
+use Rattle.part_meta.specs.declared.part.PartMeta.{PartMeta}
+use Rattle.part_meaning.specs.Columns.{no_column}
 use Rattle.wah_logic.specs.Logic.{groups_and_rest}
 use Rattle.where_plan.specs.PlanOf.{plan_of}
+use Rattle.where_plan.specs.declared.plan.Plan.{Plan}
 use Rattle.query_grammar.specs.Language.{read_query}
+use Rattle.query_grammar.specs.declared.picking.PickItem.{PickItem}
 use Rattle.dataset.specs.Found.{found_in}
 use Rattle.dataset.specs.Opened.{IsTextLook}
 use Rattle.dataset.specs.declared.content.Dataset.{Dataset}
 use Rattle.query_engine.specs.Reads.{bitmaps_over, is_allowed_over, is_bitmap_over, is_free_over, steps_over}
+use Rattle.selected_cells.specs.Items.{column_of}
 use Rattle.selected_cells.specs.Reads.{is_selected_over}
 use Rattle.stages.specs.Looks.{AddsLooks}
 use Rattle.world.specs.Stands.{StandsFor}
@@ -44,6 +49,19 @@ IsQueryLook dir query look = IsOkAnd (read_query query) (λ q. IsTextLook dir lo
 abbrev pub IsBoundsLook : (dir query : List ℕ) → Look → Type 0
 IsBoundsLook dir query look = IsOkAnd (read_query query) (λ q. IsTextLook dir look ⊎ IsFileLook dir (names q.clause) look)
 
+-- Of a file of the column of an item, in a part that the dataset lists.
+pub record IsItemLook (dataset : Dataset) (items : List PickItem) (look : Look) : Type 0 where
+  pub place : ℕ
+  pub part : PartMeta
+  pub listed : slice_get dataset.parts place ≡ Some part
+  pub item_place : ℕ
+  pub picked : PickItem
+  pub of_item : slice_get items item_place ≡ Some picked
+  pub col : ℕ
+  pub of_column : column_of picked ≡ Some col
+  pub kind : FileKind
+  pub file : look.name ≡ file_name dataset.dir part.number (Some (slice_index_or part.schema col no_column).name) kind
+
 -- ---- where the files stand for a world
 
 -- the catalog, or the text of a part of the dataset
@@ -51,13 +69,18 @@ unfoldable pub is_text_in : List ℕ → Content → Look → Bool
 is_text_in dir content look =
     bytes_eq look.name (catalog_name dir) || list_any (λ part. bytes_eq look.name (part_name dir part.number)) content.parts
 
--- besides texts a question may read for its clause's plan, values of candidates alone, and of selected columns on the rows that are
--- asked for
+-- of a selected column, and of values on rows that the plan holds of
+abbrev pub IsSelectedLook : Dataset → List Partition → Plan → List PickItem → Look → Type 0
+IsSelectedLook dataset parts plan items look = is_selected_over dataset parts plan items look ≡ true
+
+-- for the plan, of values on candidates alone; or of a selected column, of values on rows that the plan holds of
+abbrev pub is_found_over : Dataset → List Partition → Plan → List PickItem → Look → Bool
+is_found_over dataset parts plan items look = is_allowed_over dataset parts plan look || is_selected_over dataset parts plan items look
+
+-- besides texts a question may read these for its clause's plan and its select list
 abbrev pub may_read : Asking → List Partition → Look → Bool
 may_read asking parts look =
-    let plan = plan_of asking.dataset.schema asking.query.clause in
-    is_allowed_over asking.dataset parts plan look
-    || is_selected_over asking.dataset parts plan (items_of (pick_of asking.dataset.schema asking.query)) look
+    is_found_over asking.dataset parts (plan_of asking.dataset.schema asking.query.clause) (items_of (pick_of asking.dataset.schema asking.query)) look
 
 -- and an estimate for its clause's plan, no values
 abbrev pub may_read_bounds : Asking → List Partition → Look → Bool

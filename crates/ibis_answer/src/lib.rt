@@ -8,6 +8,7 @@
 mod estimating;
 mod laws;
 mod printing;
+mod ready;
 mod rows;
 mod selecting;
 mod showing;

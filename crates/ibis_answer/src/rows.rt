@@ -1,23 +1,25 @@
 //! The rows of an answer, before it is printed.
 
-ghost use Rattle.std.specs.Prelude.{◌≡◌, ◌+◌, ◌++◌, ◌≤◌, ◌<◌, ◌^◌, List, IfErr, IfOk, IfSome, IsErrOf, OnOk};
-ghost use Rattle.std.specs.List.{All, AllByRecursion};
+ghost use Rattle.std.specs.Prelude.{◌≡◌, ◌+◌, ◌++◌, ◌≤◌, ◌^◌, List, IfErr, IfOk, IfSome, IsErrOf, OnOk, length, map, sum_by};
+ghost use Rattle.std.specs.List.{AllByRecursion};
 ghost use Rattle.fb_outside.specs.Causes.{HasCause};
 ghost use Rattle.fb_outside.specs.Files.{SameFiles};
 ghost use Rattle.fb_outside.specs.Reads.{AddsOnly};
 ghost use Rattle.fb_types.specs.declared.cells.Cell.{Cell};
 ghost use Rattle.dataset.specs.Opened.{IsDataset};
 ghost use Rattle.query_engine.specs.Damage.{IfDamaged, NoDamage};
-ghost use Rattle.query_engine.specs.Parts.{AreParts};
+ghost use Rattle.query_engine.specs.Parts.{AreParts, rows_chosen};
 ghost use Rattle.select_group.specs.Answer.{answer_of};
 ghost use Rattle.select_group.specs.Gathered.{CanBeAdded, Gathered};
 ghost use Rattle.selected_cells.specs.Damages.{IsSelectedDamaged};
-ghost use Rattle.selected_cells.specs.Items.{FitsItem};
+ghost use Rattle.selected_cells.specs.Runs.{rows_of_runs};
 ghost use Rattle.selected_cells.specs.Walks.{words_over};
+ghost use Rattle.wah_logic.specs.Logic.{ones};
+ghost use Rattle.where_plan.specs.declared.plan.Plan.{Plan};
 ghost use Rattle.world.specs.World.{Partition};
-ghost use Rattle.ibis_answer.specs.Looks.{IsItemLook};
+ghost use Rattle.ibis_answer.specs.Looks.{IsItemLook, IsSelectedLook};
 ghost use Rattle.ibis_answer.specs.Query.{items_of};
-ghost use Rattle.ibis_answer.specs.Rows.{AreCellsOf, AreChosen, AreOpen, AreRowsFor, chosen_runs, rows_words};
+ghost use Rattle.ibis_answer.specs.Rows.{AreCellsOf, AreOpen, AreRowsFor, IsPickFor, chosen_runs, left_of, most_words};
 
 use dataset::Dataset;
 use fb_outside::Store;
@@ -40,7 +42,7 @@ pub(crate) enum AnswerRows {
     Columns(Items<SelectedPart>),
 }
 
-/// The rows that a query shows of the chosen records, or the columns that they are read from.
+/// The rows that a query shows of the chosen records, or the columns that they are read from. Each column is opened first.
 pub(crate) fn answer_rows<S: Store, L: Ledger>(
     alloc: Global,
     dataset: &Dataset,
@@ -48,7 +50,23 @@ pub(crate) fn answer_rows<S: Store, L: Ledger>(
     chosen: &Chosen,
     store: &mut S,
     steps: &mut Steps<L>,
-) -> Result<AnswerRows, AskFault> {
+) -> Result<AnswerRows, AskFault>
+    requires valid { IsDataset dataset.now }
+    requires pick { IfSome pick.now (IsPickFor dataset.now.schema) }
+    requires lengths { map length chosen.now.parts ≡ map (λ part. part.rows) dataset.now.parts }
+    requires count { chosen.now.hits ≡ sum_by ones chosen.now.parts }
+    ensures cause { HasCause (S.faults store.old) (S.faults store.new) (IsErrOf result AskFault.Store) }
+    ensures files { SameFiles (S.files store.old) (S.files store.new) }
+    ensures stop { IfErr result (λ fault. IfDamaged fault (IsSelectedDamaged (S.files store.old) dataset.now (items_of pick.now))) }
+    ensures looks { AddsOnly (IsItemLook dataset.now (items_of pick.now)) (S.reads store.old) (S.reads store.new) }
+    ensures rows { IfOk result (AreRowsFor (S.files store.old) dataset.now pick.now chosen.now) }
+    ensures steps { steps.new + left_of chosen.now result ≤ steps.old + most_words pick.now dataset.now.parts }
+
+    // Where the files rest for parts, of whose records the chosen rows are.
+    ensures whole { IfErr result (λ fault. (parts : List Partition) → AreParts (S.files store.old) dataset.now parts → NoDamage fault) }
+    ensures reads { (parts : List Partition) (plan : Plan) → AreParts (S.files store.old) dataset.now parts → chosen.now.parts ≡ rows_chosen plan parts
+        → AddsOnly (IsSelectedLook dataset.now parts plan (items_of pick.now)) (S.reads store.old) (S.reads store.new) }
+{
     let Some(pick) = pick else {
         return Ok(AnswerRows::Gathered(Items::new(alloc)));
     };
@@ -69,7 +87,22 @@ fn gathered<S: Store, L: Ledger>(
     opened: &[SelectedPart],
     store: &mut S,
     steps: &mut Steps<L>,
-) -> Result<Items<Items<Cell>>, AskFault> {
+) -> Result<Items<Items<Cell>>, AskFault>
+    requires valid { IsDataset dataset.now }
+    requires opened { AreOpen (S.files store.old) dataset.now pick.now.items chosen.now.parts opened.now }
+    requires few { chosen.now.hits ≤ 2 ^ 32 }
+    requires count { chosen.now.hits ≡ rows_of_runs (chosen_runs chosen.now) }
+    ensures cause { HasCause (S.faults store.old) (S.faults store.new) (IsErrOf result AskFault.Store) }
+    ensures files { SameFiles (S.files store.old) (S.files store.new) }
+    ensures stop { IfErr result (λ fault. IfDamaged fault (IsSelectedDamaged (S.files store.old) dataset.now pick.now.items)) }
+    ensures looks { AddsOnly (IsItemLook dataset.now pick.now.items) (S.reads store.old) (S.reads store.new) }
+    ensures rows { IfOk result (λ rows. (cells : List (List Cell)) × AreCellsOf (S.files store.old) dataset.now pick.now.items (chosen_runs chosen.now) cells
+        × (rows ≡ answer_of pick.now cells)) }
+    ensures steps { steps.new ≤ steps.old + words_over chosen.now.parts opened.now }
+    ensures whole { IfErr result (λ fault. (parts : List Partition) → AreParts (S.files store.old) dataset.now parts → NoDamage fault) }
+    ensures reads { (parts : List Partition) (plan : Plan) → AreParts (S.files store.old) dataset.now parts → chosen.now.parts ≡ rows_chosen plan parts
+        → AddsOnly (IsSelectedLook dataset.now parts plan pick.now.items) (S.reads store.old) (S.reads store.new) }
+{
     let items = pick.items.as_slice();
     let parts = chosen.parts.as_slice();
     let mut blocks = RowBlocks::over(alloc, dataset, items, parts, opened, chosen.hits)?;
@@ -80,7 +113,8 @@ fn gathered<S: Store, L: Ledger>(
         left -= rows.len() as u64;
         add_rows(alloc, &mut grouper, rows)?;
     }
-    Ok(Items::from_vec(grouper.finish()?))
+    let rows = grouper.finish()?;
+    Ok(Items::from_vec(rows))
 }
 
 fn copy_of(alloc: Global, pick: &Pick) -> Result<Pick, AllocError>
@@ -99,7 +133,12 @@ fn add_rows(
     alloc: Global,
     grouper: &mut Grouper,
     rows: Vec<Items<Cell>>,
-) -> Result<(), AllocError> {
+) -> Result<(), AllocError>
+    requires can { AllByRecursion (CanBeAdded grouper.old.pick.items) rows.items }
+    requires few { grouper.old.added + length rows.items ≤ 2 ^ 32 }
+    ensures pick { grouper.new.pick ≡ grouper.old.pick }
+    ensures gathered { OnOk result ((cells : List (List Cell)) → Gathered grouper.old cells → Gathered grouper.new (cells ++ rows.items)) }
+{
     for row in rows {
         grouper.add(cells_of(alloc, row)?)?;
     }

@@ -8,11 +8,11 @@ ghost use Rattle.fb_outside.specs.Reads.{AddsOnly};
 ghost use Rattle.dataset.specs.Looks.{IsListedLook};
 ghost use Rattle.dataset.specs.Opened.{IsDataset};
 ghost use Rattle.query_grammar.specs.Language.{read_query};
-ghost use Rattle.query_grammar.specs.Picks.{IsSoundPick};
 ghost use Rattle.where_plan.specs.Plans.{FitsSchema};
 ghost use Rattle.ibis_answer.specs.Asked.{Selects, stop_of_ask, stop_of_name, stop_of_select, stop_of_text};
 ghost use Rattle.ibis_answer.specs.Looks.{IsOpeningOf};
 ghost use Rattle.ibis_answer.specs.Query.{kind_of_select};
+ghost use Rattle.ibis_answer.specs.Rows.{IsPickFor};
 
 use dataset::Dataset;
 use fb_outside::{FileName, Store};
@@ -48,7 +48,7 @@ pub(crate) fn selected<S: Store>(
     ensures valid { IfOk result (λ selection. IsDataset selection.dataset) }
     ensures path { IfOk result (λ selection. selection.dataset.dir ≡ dir.now) }
     ensures fits { IfOk result (λ selection. FitsSchema selection.dataset.schema selection.plan) }
-    ensures sound { IfOk result (λ selection. IfSome selection.pick IsSoundPick) }
+    ensures pick { IfOk result (λ selection. IfSome selection.pick (IsPickFor selection.dataset.schema)) }
     ensures selects { Selects dir.now query.now (S.files store.old) result }
     ensures asks_store { IsErrOf result Unanswered.StoreFault → is_ok (read_query query.now) ≡ true }
 {

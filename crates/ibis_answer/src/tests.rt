@@ -265,22 +265,22 @@ fn rows_groups_orders_and_limits(rt: HostRuntime) -> Result<(), Fail> {
         (
             "D",
             "select a, b where a > 6",
-            "hits 4\n7,0\n8,1\n9,0\n10,0\nchecked 1\n",
+            "hits 4\n7,0\n8,1\n9,0\n10,0\nchecked 4\n",
         ),
         (
             "D",
             "select a where a > 6 limit 2",
-            "hits 4\n7\n8\nchecked 1\n",
+            "hits 4\n7\n8\nchecked 4\n",
         ),
         (
             "D",
             "select a where a > 6 limit 0",
-            "hits 4\nchecked 1\n",
+            "hits 4\nchecked 4\n",
         ),
         (
             "D",
             "select b, a where a > 6 order by b desc, a desc limit 2",
-            "hits 4\n1,8\n0,10\nchecked 1\n",
+            "hits 4\n1,8\n0,10\nchecked 4\n",
         ),
         (
             "D",
@@ -321,7 +321,7 @@ fn a_front_is_printed_where_the_output_fails(rt: HostRuntime) -> Result<(), Fail
         (0, "sink fault"),
         (1, "hits 2\nsink fault"),
         (2, "hits 2\n1\n2\nsink fault"),
-        (3, "hits 2\n1\n2\nchecked 2\n"),
+        (3, "hits 2\n1\n2\nchecked 3\n"),
     ] {
         let want = want.as_bytes();
         check_failing(&rt, rt.blank(), &mut store, &[call], &dir, query, want)?;

@@ -4,6 +4,7 @@ use crate::tests::{Case, LOAD, expect, expect_load, expect_words};
 use fb_outside::MemStore;
 use std::alloc::{AllocError, Global};
 use std::test::Fail;
+use steps::Count;
 
 type Row = (&'static [&'static str], u8, &'static str);
 

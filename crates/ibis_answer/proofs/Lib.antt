@@ -1,9 +1,8 @@
-pub mod QueryLemmas
-pub mod GivesLemmas
 pub mod NamedLemmas
+pub mod PickLemmas
+pub mod SelectionLemmas
 pub mod HitLemmas
 pub mod WorldLemmas
 pub mod LookLemmas
 pub mod EncloseLemmas
-pub mod PickLemmas
-pub mod SelectionLemmas
+pub mod BoundsLemmas

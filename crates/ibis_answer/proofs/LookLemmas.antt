@@ -1,4 +1,4 @@
--- The reads of a question: over every store, and where the files stand for a world.
+-- The reads of a question and of an estimate: over every store, and where the files stand for a world.
 use Rattle.std.proofs.Common.{◌≡◌, ◌⊎◌, ◌<◌, ◌≤◌, ◌||◌, inl, inr, ℕ, suc, Bool, true, false, cond, IsTrue, List, [], ◌∷◌, ◌++◌, map, Option, Some, None, IfSome, Result, Ok, Err, option_map, refl, sym, ap, subst, ◌∙◌, arith}
 use Rattle.std.specs.Prelude.{IsOkAnd}
 use Rattle.std.specs.List.{AllByRecursion, filter, list_any, slice_get}
@@ -14,7 +14,6 @@ use Rattle.part_meta.specs.FileNames.{catalog_name, file_name, part_name}
 use Rattle.part_meta.specs.declared.catalog.Catalog.{Catalog}
 use Rattle.part_meta.specs.declared.names.FileKind.TheVariants.{PartText}
 use Rattle.part_meta.proofs.FileNameLemmas.{file_is_no_catalog, same_file}
-use Rattle.where_grammar.specs.declared.clause.Clause.{Clause}
 use Rattle.where_grammar.specs.declared.clause.QueryKind.{QueryKind}
 use Rattle.where_plan.specs.PlanOf.{plan_of}
 use Rattle.where_plan.specs.Plans.{IsPlan}
@@ -27,7 +26,7 @@ use Rattle.stages.proofs.LookLemmas.{adds_done, adds_front, adds_joined, adds_we
 use Rattle.world.specs.Stands.{Stands, StandsFor}
 use Rattle.world.specs.World.{Content, Partition, World, catalog_data, content_at}
 use Rattle.world.proofs.PlaceLemmas.{All-at}
-use Rattle.dataset.specs.Found.{dataset_in, found_in}
+use Rattle.dataset.specs.Found.{There, dataset_in, found_by, found_in}
 use Rattle.dataset.specs.Looks.{IsListedLook, IsPartLook}
 use Rattle.dataset.specs.Opened.{HasCatalog, IsDataset, IsPartOf, IsTextLook}
 use Rattle.dataset.specs.declared.content.Dataset.{Dataset}
@@ -38,56 +37,41 @@ use Rattle.query_engine.specs.Reads.{IsPlanLook, bitmaps_over, is_bitmap_over}
 use Rattle.query_engine.proofs.NameLemmas.{IsOfPart, bitmap_of_part}
 use Rattle.part_meaning.specs.Parts.{is_bitmap_in}
 use Rattle.statuses.specs.declared.Status.{Status}
-use Rattle.ibis_answer.specs.declared.asking.Question.{Question}
-use Rattle.ibis_answer.specs.Answer.{asked_of}
-use Rattle.ibis_answer.specs.Asked.{IsAsked}
-use Rattle.ibis_answer.specs.Looks.{AddsAskedLooks, AddsPlanLooks, IsAnswerLook, IsClauseLook, IsOpeningLook, ReadsInWorld, is_text_in}
-use Rattle.ibis_answer.specs.Query.{names, read_clause}
+use Rattle.statuses.specs.declared.Status.TheVariants.{BadQuery}
+use Rattle.query_grammar.specs.declared.picking.Pick.{Pick}
+use Rattle.query_grammar.specs.declared.query.Query.{Query}
+use Rattle.query_grammar.specs.Language.{read_query}
+use Rattle.ibis_answer.specs.declared.selecting.Selection.{Selection}
+use Rattle.ibis_answer.specs.Answer.{Asking, asked_at, asking_of}
+use Rattle.ibis_answer.specs.Asked.{IsSelection}
+use Rattle.ibis_answer.specs.Looks.{AddsAllowedLooks, AddsGivenLooks, IsBoundsLook, IsFileLook, IsItemLook, IsOpeningOf, IsQueryLook, LooksInWorld, is_text_in}
+use Rattle.ibis_answer.specs.Query.{fits_or_refused, items_of, misfit, names, pick_of, query_names, query_or_refusal, selects}
 use Rattle.ibis_answer.proofs.NamedLemmas.{conditions_named, name_in}
-use Rattle.ibis_answer.proofs.WorldLemmas.{asked_in_world}
+use Rattle.ibis_answer.proofs.PickLemmas.{item_named}
+use Rattle.ibis_answer.proofs.SelectionLemmas.{at_refused, at_there}
+use Rattle.ibis_answer.proofs.WorldLemmas.{asked_in_world, asking}
 
 -- ---- over every store
 
-opening_is_answer : (dir query : List ℕ) (look : Look) (read : Result (Option Clause) QueryKind) → IsOkAnd read (λ clause. IsTextLook dir look)
-    → IsOkAnd read (λ clause. IsTextLook dir look ⊎ IsClauseLook dir clause look)
-opening_is_answer dir query look (Ok clause) is = inl is
-opening_is_answer dir query look (Err kind) is = absurd is
+-- the query's text isn't refused, and then this holds
+when_read : (dir query : List ℕ) (q : Query) (P : Query → Type 0) → read_query query ≡ Ok q → P q → IsOkAnd (read_query query) P
+when_read dir query q P read h = subst (λ (r : Result Query QueryKind). IsOkAnd r P) (sym read) h
 
-pub opening_looks_of_answer : (dir query : List ℕ) (old new : Option (List Look)) → AddsOnly (IsOpeningLook dir query) old new → AddsOnly (IsAnswerLook dir query) old new
-opening_looks_of_answer dir query old new h =
-    AddsOnly-weaken (IsOpeningLook dir query) (IsAnswerLook dir query) old new (λ look is. opening_is_answer dir query look (read_clause query) is) h
+opening_in : (dir query : List ℕ) (look : Look) (named : Query → List ℕ → Bool) (read : Result Query QueryKind) → IsOkAnd read (λ q. IsTextLook dir look)
+    → IsOkAnd read (λ q. IsTextLook dir look ⊎ IsFileLook dir (named q) look)
+opening_in dir query look named (Ok q) is = inl is
+opening_in dir query look named (Err kind) is = absurd is
 
-clause_look : (dir : List ℕ) (clause : Option Clause) (dataset : Dataset) (plan : Plan) (look : Look) → IsDataset dataset → dataset.dir ≡ dir
-    → IsPlan dataset.schema clause plan → IsPlanLook dataset plan look → IsClauseLook dir clause look
-unfolding atoms_of
-clause_look dir clause dataset plan look valid same is h =
-    let condition = h.for_condition.atom in record {
-      number = h.part.number;
-      few = (All-at (IsPartOf dataset) dataset.parts h.place h.part h.listed valid.parts).0.number;
-      name = name_in dataset.schema condition;
-      named = all_at (λ c. names clause (name_in dataset.schema c) ≡ true) (atoms_of plan) h.for_condition.place condition
-          (conditions_named dataset.schema clause plan is) h.for_condition.there;
-      kind = h.kind;
-      file = h.for_condition.is ∙ ap (λ d. file_name d h.part.number (Some (name_in dataset.schema condition)) h.kind) same;
-    }
+pub opening_of_query : (dir query : List ℕ) (old new : Option (List Look)) → AddsOnly (IsOpeningOf dir query) old new → AddsOnly (IsQueryLook dir query) old new
+opening_of_query dir query old new h =
+    AddsOnly-weaken (IsOpeningOf dir query) (IsQueryLook dir query) old new (λ look is. opening_in dir query look query_names (read_query query) is) h
 
-pub answer_looks : (dir query : List ℕ) (files : Option Files) (question : Question) (old mid new : Option (List Look)) → IsDataset question.dataset
-    → question.dataset.dir ≡ dir → IsAsked dir query files question → AddsOnly (IsOpeningLook dir query) old mid
-    → AddsOnly (IsPlanLook question.dataset question.plan) mid new → AddsOnly (IsAnswerLook dir query) old new
-answer_looks dir query files question old mid new valid same is h k =
-    AddsOnly-trans (IsAnswerLook dir query) old mid new (opening_looks_of_answer dir query old mid h)
-    (AddsOnly-weaken (IsPlanLook question.dataset question.plan) (IsAnswerLook dir query) mid new
-    (λ look w. subst (λ (r : Result (Option Clause) QueryKind). IsOkAnd r (λ clause. IsTextLook dir look ⊎ IsClauseLook dir clause look)) (sym is.read)
-    (inr (clause_look dir is.clause question.dataset question.plan look valid same is.planned w))) k)
+pub opening_of_bounds : (dir query : List ℕ) (old new : Option (List Look)) → AddsOnly (IsOpeningOf dir query) old new → AddsOnly (IsBoundsLook dir query) old new
+opening_of_bounds dir query old new h =
+    AddsOnly-weaken (IsOpeningOf dir query) (IsBoundsLook dir query) old new (λ look is. opening_in dir query look (λ q. names q.clause) (read_query query) is) h
 
 pub wrong : {X : Type 0} → false ≡ true → X
 wrong e = absurd (cc)
-
--- ---- texts, where the files stand for a world
-
-not_true : (b : Bool) → (b ≡ true → ⊥) → b ≡ false
-not_true true wrong = absurd (wrong refl)
-not_true false wrong = refl
 
 or_first : (a b : Bool) → a ≡ true → (a || b) ≡ true
 or_first true b e = refl
@@ -96,6 +80,78 @@ or_first false b e = absurd (cc)
 or_second : (a b : Bool) → b ≡ true → (a || b) ≡ true
 or_second true b e = refl
 or_second false b e = e
+
+module _ (dir query : List ℕ) (files : Option Files) (selection : Selection) (valid : IsDataset selection.dataset) (same : selection.dataset.dir ≡ dir)
+    (is : IsSelection dir query files selection) where
+  clause_file : (look : Look) → IsPlanLook selection.dataset selection.plan look → IsFileLook dir (names is.asked.clause) look
+  unfolding atoms_of
+  clause_file look h =
+      let dataset = selection.dataset in
+      let condition = h.for_condition.atom in record {
+        number = h.part.number;
+        few = (All-at (IsPartOf dataset) dataset.parts h.place h.part h.listed valid.parts).0.number;
+        name = name_in dataset.schema condition;
+        is_named = all_at (λ c. names is.asked.clause (name_in dataset.schema c) ≡ true) (atoms_of selection.plan) h.for_condition.place condition
+            (conditions_named dataset.schema is.asked.clause selection.plan is.planned) h.for_condition.there;
+        kind = h.kind;
+        file = h.for_condition.is ∙ ap (λ d. file_name d h.part.number (Some (name_in dataset.schema condition)) h.kind) same;
+      }
+
+  item_file : (look : Look) → IsItemLook selection.dataset (items_of selection.pick) look → IsFileLook dir (selects is.asked.select) look
+  item_file look h =
+      let dataset = selection.dataset in
+      let of_part = All-at (IsPartOf dataset) dataset.parts h.place h.part h.listed valid.parts in
+      record {
+        number = h.part.number;
+        few = of_part.0.number;
+        name = (slice_index_or dataset.schema h.col no_column).name;
+        is_named = item_named dataset.schema is.asked selection.pick is.found h.item_place h.picked h.col h.of_item h.of_column;
+        kind = h.kind;
+        file = h.file ∙ ap (λ (s : List Column). file_name dataset.dir h.part.number (Some (slice_index_or s h.col no_column).name) h.kind) of_part.1
+            ∙ ap (λ d. file_name d h.part.number (Some (slice_index_or dataset.schema h.col no_column).name) h.kind) same;
+      }
+
+  wider : (few many : List ℕ → Bool) (look : Look) → ((name : List ℕ) → few name ≡ true → many name ≡ true) → IsFileLook dir few look → IsFileLook dir many look
+  wider few many look more h = record { number = h.number; few = h.few; name = h.name; is_named = more h.name h.is_named; kind = h.kind; file = h.file }
+
+  clause_in_query : (look : Look) → IsPlanLook selection.dataset selection.plan look → IsQueryLook dir query look
+  clause_in_query look h =
+      when_read dir query is.asked (λ q. IsTextLook dir look ⊎ IsFileLook dir (query_names q) look) is.read
+      (inr (wider (names is.asked.clause) (query_names is.asked) look (λ name t. or_first (names is.asked.clause name) (selects is.asked.select name) t) (clause_file look h)))
+
+  item_in_query : (look : Look) → IsItemLook selection.dataset (items_of selection.pick) look → IsQueryLook dir query look
+  item_in_query look h =
+      when_read dir query is.asked (λ q. IsTextLook dir look ⊎ IsFileLook dir (query_names q) look) is.read
+      (inr (wider (selects is.asked.select) (query_names is.asked) look (λ name t. or_second (names is.asked.clause name) (selects is.asked.select name) t) (item_file look h)))
+
+  pub items_in_query : (old new : Option (List Look)) → AddsOnly (IsItemLook selection.dataset (items_of selection.pick)) old new → AddsOnly (IsQueryLook dir query) old new
+  items_in_query old new h = AddsOnly-weaken (IsItemLook selection.dataset (items_of selection.pick)) (IsQueryLook dir query) old new item_in_query h
+
+  -- what is read to find it
+  pub query_looks : (old mid new : Option (List Look)) → AddsOnly (IsOpeningOf dir query) old mid
+      → AddsOnly (λ look. IsPlanLook selection.dataset selection.plan look ⊎ IsItemLook selection.dataset (items_of selection.pick) look) mid new
+      → AddsOnly (IsQueryLook dir query) old new
+  query_looks old mid new h k =
+      AddsOnly-trans (IsQueryLook dir query) old mid new (opening_of_query dir query old mid h)
+      (AddsOnly-weaken (λ look. IsPlanLook selection.dataset selection.plan look ⊎ IsItemLook selection.dataset (items_of selection.pick) look) (IsQueryLook dir query) mid new
+      either k)
+    where
+      either : (look : Look) → IsPlanLook selection.dataset selection.plan look ⊎ IsItemLook selection.dataset (items_of selection.pick) look → IsQueryLook dir query look
+      either look (inl h) = clause_in_query look h
+      either look (inr h) = item_in_query look h
+
+  pub bounds_looks : (old mid new : Option (List Look)) → AddsOnly (IsOpeningOf dir query) old mid → AddsOnly (IsPlanLook selection.dataset selection.plan) mid new
+      → AddsOnly (IsBoundsLook dir query) old new
+  bounds_looks old mid new h k =
+      AddsOnly-trans (IsBoundsLook dir query) old mid new (opening_of_bounds dir query old mid h)
+      (AddsOnly-weaken (IsPlanLook selection.dataset selection.plan) (IsBoundsLook dir query) mid new
+      (λ look w. when_read dir query is.asked (λ q. IsTextLook dir look ⊎ IsFileLook dir (names q.clause) look) is.read (inr (clause_file look w))) k)
+
+-- ---- texts, where the files stand for a world
+
+not_true : (b : Bool) → (b ≡ true → ⊥) → b ≡ false
+not_true true wrong = absurd (wrong refl)
+not_true false wrong = refl
 
 none_pass : {X : Type 0} (test : X → Bool) (xs : List X) → ((place : ℕ) (x : X) → slice_get xs place ≡ Some x → test x ≡ false) → list_any test xs ≡ false
 none_pass test [] none = refl
@@ -166,68 +222,85 @@ module _ (m : Files) (world : World) (dir : List ℕ) (stands : Stands m world) 
         whole = λ _. refl;
       }) h
 
-  -- and then what a plan reads
-  plan_read : (allowed : Dataset → List Partition → Plan → Look → Bool) (clause : Option Clause) (old mid new : Option (List Look)) (done : Type 0)
+  -- and then what is allowed of what was asked
+  found_read : (allowed : Asking → List Partition → Look → Bool) (q : Query) (old mid new : Option (List Look)) (done : Type 0)
       → AddsOnly (IsListedLook m dir) old mid
-      → AddsLooks mid new (allowed (dataset_in dir content) content.parts (plan_of content.schema clause)) (is_bitmap_over (dataset_in dir content) content.parts)
-      (bitmaps_over (dataset_in dir content) content.parts (plan_of content.schema clause)) done
-      → AddsPlanLooks allowed dir clause content old new done
-  plan_read allowed clause old mid new done h k =
+      → AddsLooks mid new (allowed (asking q (dataset_in dir content)) content.parts) (is_bitmap_over (dataset_in dir content) content.parts)
+      (bitmaps_over (dataset_in dir content) content.parts (plan_of content.schema q.clause)) done
+      → AddsAllowedLooks allowed dir (asking q (dataset_in dir content)) content old new done
+  found_read allowed q old mid new done h k =
       let dataset = dataset_in dir content in
-      let plan = plan_of content.schema clause in
+      let plan = plan_of content.schema q.clause in
       let is_bitmap = is_bitmap_over dataset content.parts in
-      let either : Look → Bool = λ look. is_text_in dir content look || allowed dataset content.parts plan look in
+      let may : Look → Bool = allowed (asking q dataset) content.parts in
+      let either : Look → Bool = λ look. is_text_in dir content look || may look in
       adds_joined old mid new either is_bitmap [] (bitmaps_over dataset content.parts plan) (Unit {0}) done tt
-      (texts_read (allowed dataset content.parts plan) old mid h)
-      (adds_weaker mid new (allowed dataset content.parts plan) either is_bitmap (bitmaps_over dataset content.parts plan) done
-      (λ look t. or_second (is_text_in dir content look) (allowed dataset content.parts plan look) t) k)
+      (texts_read may old mid h)
+      (adds_weaker mid new may either is_bitmap (bitmaps_over dataset content.parts plan) done
+      (λ look t. or_second (is_text_in dir content look) (may look) t) k)
 
 -- ---- what is asked, where the files stand for a world
 
-opening_is_text : (dir : List ℕ) (look : Look) (read : Result (Option Clause) QueryKind) → IsOkAnd read (λ clause. IsTextLook dir look) → IsTextLook dir look
-opening_is_text dir look (Ok clause) is = is
+opening_is_text : (dir : List ℕ) (look : Look) (read : Result Query QueryKind) → IsOkAnd read (λ q. IsTextLook dir look) → IsTextLook dir look
+opening_is_text dir look (Ok q) is = is
 opening_is_text dir look (Err kind) is = absurd is
 
-texts_alone : (dir query : List ℕ) (old new : Option (List Look)) → AddsOnly (IsOpeningLook dir query) old new → AddsOnly (IsTextLook dir) old new
+texts_alone : (dir query : List ℕ) (old new : Option (List Look)) → AddsOnly (IsOpeningOf dir query) old new → AddsOnly (IsTextLook dir) old new
 texts_alone dir query old new h =
-    AddsOnly-weaken (IsOpeningLook dir query) (IsTextLook dir) old new (λ look is. opening_is_text dir look (read_clause query) is) h
+    AddsOnly-weaken (IsOpeningOf dir query) (IsTextLook dir) old new (λ look is. opening_is_text dir look (read_query query) is) h
 
-module _ (allowed : Dataset → List Partition → Plan → Look → Bool) (dir query : List ℕ) where
+-- what is asked of a dataset is asked of that one
+asked_there : (dir query : List ℕ) (dataset : Dataset) (a : Asking) → asked_at dir query (There dataset) ≡ Ok a → a.dataset ≡ dataset
+asked_there dir query dataset a e = by (read_query query) refl
+  where
+    fitting : (q : Query) (o : Option QueryKind) → asking_of dataset (fits_or_refused q o) ≡ Ok a → a.dataset ≡ dataset
+    fitting q None h = let same : asking q dataset ≡ a = cc in ap (λ (x : Asking). x.dataset) (sym same)
+    fitting q (Some kind) h = absurd (cc)
+
+    by : (read : Result Query QueryKind) → read_query query ≡ read → a.dataset ≡ dataset
+    by (Ok q) r = fitting q (misfit dataset.schema q) (sym (at_there dir query dataset q r) ∙ e)
+    by (Err kind) r = absurd (let bad : Err (BadQuery kind) ≡ Ok a = sym (at_refused dir query (There dataset) kind r) ∙ e in cc)
+
+module _ (allowed : Asking → List Partition → Look → Bool) (dir query : List ℕ) where
   stopped_by : (m : Files) (world : World) (stands : Stands m world) (old new : Option (List Look)) (done : Type 0) → (done → ⊥)
-      → AddsOnly (IsOpeningLook dir query) old new → AddsOnly (IsListedLook m dir) old new
-      → (asked : Result (Option Clause) Status) (found : Option Content) → content_at world dir ≡ found → AddsAskedLooks allowed dir asked found old new done
-  stopped_by m world stands old new done not_done h listed (Ok clause) (Some content) at =
-      let dataset = dataset_in dir content in
-      let plan = plan_of content.schema clause in
-      adds_front old new (λ look. is_text_in dir content look || allowed dataset content.parts plan look) (is_bitmap_over dataset content.parts) []
-      (bitmaps_over dataset content.parts plan) (Unit {0}) done not_done
-      (texts_read m world dir stands content at (allowed dataset content.parts plan) old new listed)
-  stopped_by m world stands old new done not_done h listed (Ok clause) None at = texts_alone dir query old new h
-  stopped_by m world stands old new done not_done h listed (Err status) found at = texts_alone dir query old new h
+      → AddsOnly (IsOpeningOf dir query) old new → AddsOnly (IsListedLook m dir) old new
+      → (asked : Result Asking Status) (found : Option Content) → content_at world dir ≡ found → asked_at dir query (found_by dir found) ≡ asked
+      → AddsGivenLooks allowed dir asked found old new done
+  stopped_by m world stands old new done not_done h listed (Ok a) (Some content) at e =
+      let same : a.dataset ≡ dataset_in dir content = asked_there dir query (dataset_in dir content) a e in
+      let may : Look → Bool = allowed a content.parts in
+      let plan = plan_of a.dataset.schema a.query.clause in
+      adds_front old new (λ look. is_text_in dir content look || may look) (is_bitmap_over a.dataset content.parts) []
+      (bitmaps_over a.dataset content.parts plan) (Unit {0}) done not_done
+      (subst (λ (d : Dataset). AddsLooks old new (λ look. is_text_in dir content look || may look) (is_bitmap_over d content.parts) [] (Unit {0})) (sym same)
+      (texts_read m world dir stands content at may old new listed))
+  stopped_by m world stands old new done not_done h listed (Ok a) None at e = texts_alone dir query old new h
+  stopped_by m world stands old new done not_done h listed (Err status) found at e = texts_alone dir query old new h
 
-  -- a question that is refused, or stopped before its plan is asked
-  pub stopped_reads : (files : Option Files) (old new : Option (List Look)) (done : Type 0) → (done → ⊥) → AddsOnly (IsOpeningLook dir query) old new
-      → IfSome files (λ m. AddsOnly (IsListedLook m dir) old new) → ReadsInWorld allowed dir query files old new done
+  -- a query that is refused, or stopped before its plan is asked
+  pub stopped_reads : (files : Option Files) (old new : Option (List Look)) (done : Type 0) → (done → ⊥) → AddsOnly (IsOpeningOf dir query) old new
+      → IfSome files (λ m. AddsOnly (IsListedLook m dir) old new) → LooksInWorld allowed dir query files old new done
   stopped_reads None old new done not_done h listed world stands = absurd stands
   stopped_reads (Some m) old new done not_done h listed world stands =
-      stopped_by m world stands old new done not_done h listed (asked_of dir query (found_in world dir)) (content_at world dir) refl
+      stopped_by m world stands old new done not_done h listed (asked_at dir query (found_in world dir)) (content_at world dir) refl refl
 
   -- one whose plan is asked
-  pub asked_reads : (files after : Option Files) (question : Question) (old mid new : Option (List Look)) (done more : Type 0) → (more → done) → IsPath dir → IsAsked dir query files question
-      → after ≡ files → IfSome files (λ m. AddsOnly (IsListedLook m dir) old mid)
-      → ((parts : List Partition) → AreParts after question.dataset parts
-      → AddsLooks mid new (allowed question.dataset parts question.plan) (is_bitmap_over question.dataset parts) (bitmaps_over question.dataset parts question.plan) done)
-      → ReadsInWorld allowed dir query files old new more
-  asked_reads None after question old mid new done more is_done path is kept listed reads world stands = absurd stands
-  asked_reads (Some m) after question old mid new done more is_done path is kept listed reads world stands =
-      let there = asked_in_world m world dir stands path query question is in
+  pub asked_reads : (files after : Option Files) (selection : Selection) (old mid new : Option (List Look)) (done more : Type 0) → (more → done) → IsPath dir
+      → (is : IsSelection dir query files selection) → after ≡ files → IfSome files (λ m. AddsOnly (IsListedLook m dir) old mid)
+      → ((parts : List Partition) → AreParts after selection.dataset parts
+      → AddsLooks mid new (allowed (asking is.asked selection.dataset) parts) (is_bitmap_over selection.dataset parts) (bitmaps_over selection.dataset parts selection.plan) done)
+      → LooksInWorld allowed dir query files old new more
+  asked_reads None after selection old mid new done more is_done path is kept listed reads world stands = absurd stands
+  asked_reads (Some m) after selection old mid new done more is_done path is kept listed reads world stands =
+      let there = asked_in_world m world dir stands path query selection is in
       let content = there.content in
-      let planned = is_plan_of content.schema is.clause question.plan there.planned in
-      let looks = reads content.parts (subst (λ (f : Option Files). AreParts f question.dataset content.parts) (sym kept) there.parts) in
-      let of_dataset = subst (λ (d : Dataset). AddsLooks mid new (allowed d content.parts question.plan) (is_bitmap_over d content.parts) (bitmaps_over d content.parts question.plan) done) there.same looks in
-      let of_plan = subst (λ (p : Plan). AddsLooks mid new (allowed (dataset_in dir content) content.parts p) (is_bitmap_over (dataset_in dir content) content.parts) (bitmaps_over (dataset_in dir content) content.parts p) done) planned of_dataset in
-      subst (λ (r : Result (Option Clause) Status). AddsAskedLooks allowed dir r (content_at world dir) old new more) (sym there.asked)
-      (subst (λ (c : Option Content). AddsAskedLooks allowed dir (Ok is.clause) c old new more) (sym there.at)
-      (plan_read m world dir stands content there.at allowed is.clause old mid new more listed
-      (adds_done mid new (allowed (dataset_in dir content) content.parts (plan_of content.schema is.clause)) (is_bitmap_over (dataset_in dir content) content.parts)
-      (bitmaps_over (dataset_in dir content) content.parts (plan_of content.schema is.clause)) done more is_done of_plan)))
+      let dataset = dataset_in dir content in
+      let planned = is_plan_of content.schema is.asked.clause selection.plan there.planned in
+      let looks = reads content.parts (subst (λ (f : Option Files). AreParts f selection.dataset content.parts) (sym kept) there.parts) in
+      let of_dataset = subst (λ (d : Dataset). AddsLooks mid new (allowed (asking is.asked d) content.parts) (is_bitmap_over d content.parts) (bitmaps_over d content.parts selection.plan) done) there.same looks in
+      let of_plan = subst (λ (p : Plan). AddsLooks mid new (allowed (asking is.asked dataset) content.parts) (is_bitmap_over dataset content.parts) (bitmaps_over dataset content.parts p) done) planned of_dataset in
+      subst (λ (r : Result Asking Status). AddsGivenLooks allowed dir r (content_at world dir) old new more) (sym there.asked)
+      (subst (λ (c : Option Content). AddsGivenLooks allowed dir (Ok (asking is.asked dataset)) c old new more) (sym there.at)
+      (found_read m world dir stands content there.at allowed is.asked old mid new more listed
+      (adds_done mid new (allowed (asking is.asked dataset) content.parts) (is_bitmap_over dataset content.parts)
+      (bitmaps_over dataset content.parts (plan_of content.schema is.asked.clause)) done more is_done of_plan)))

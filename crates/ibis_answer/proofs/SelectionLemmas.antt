@@ -26,7 +26,7 @@ use Rattle.query_grammar.specs.Language.{read_query}
 use Rattle.query_grammar.specs.Picks.{IsPickOf}
 use Rattle.query_grammar.specs.Refusals.{select_refusal}
 use Rattle.query_grammar.specs.Refusals.{refusal as select_told}
-use Rattle.dataset.specs.Found.{Absent, Found, IsFound, There}
+use Rattle.dataset.specs.Found.{Absent, Broken, Found, IsFound, There}
 use Rattle.dataset.specs.Opened.{IsTextLook}
 use Rattle.dataset.specs.declared.content.Dataset.{Dataset}
 use Rattle.statuses.specs.declared.Status.{Status}
@@ -35,13 +35,11 @@ use Rattle.statuses.specs.declared.stop.Unanswered.{Unanswered}
 use Rattle.statuses.specs.declared.stop.Unanswered.TheVariants.{Refused, StoreFault, OutOfMemory}
 use Rattle.statuses.specs.Opening.{Finds, dataset_or_refusal}
 use Rattle.statuses.specs.Outcome.{◌>>=◌}
-use Rattle.ibis_answer.specs.Asked.{stop_of_name, stop_of_text}
-use Rattle.ibis_answer.specs.Selected.{fits_or_refused, kind_of_select, misfit, query_in}
-use Rattle.ibis_answer.specs.Selection.{Selects, stop_of_select}
-use Rattle.ibis_answer.specs.Shown.{asked_at, asking_of}
-use Rattle.ibis_answer.specs.ShownLooks.{IsOpeningOf}
+use Rattle.ibis_answer.specs.Query.{fits_or_refused, kind_of_select, misfit, query_in}
+use Rattle.ibis_answer.specs.Asked.{Selects, stop_of_name, stop_of_select, stop_of_text}
+use Rattle.ibis_answer.specs.Answer.{asked_at, asking_of}
+use Rattle.ibis_answer.specs.Looks.{IsOpeningOf}
 use Rattle.ibis_answer.proofs.PickLemmas.{pick_is}
-use Rattle.ibis_answer.proofs.QueryLemmas.{is_there}
 
 -- ---- the refusals
 
@@ -75,6 +73,11 @@ pub at_fitting : (dir query : List ℕ) (dataset : Dataset) (q : Query) → read
 at_fitting dir query dataset q e h = at_there dir query dataset q e ∙ ap (λ (o : Option QueryKind). asking_of dataset (fits_or_refused q o)) h
 
 -- ---- the steps
+
+is_there : (dir : List ℕ) (found : Found) (dataset : Dataset) → dataset_or_refusal dir found ≡ Ok dataset → found ≡ There dataset
+is_there dir Absent dataset e = absurd (cc)
+is_there dir (There d) dataset e = let same : d ≡ dataset = cc in ap There same
+is_there dir (Broken damage) dataset e = absurd (cc)
 
 pub text_declines : (dir query text : List ℕ) (files : Option Files) (fault : ClauseFault) → text ≡ query
     → Answers {T = Query} refusal (Err fault) (read_query text) → Selects dir query files (Err (stop_of_text fault))
@@ -141,5 +144,6 @@ module _ (dir query text : List ℕ) (files : Option Files) (q : Query) (same : 
         there = told_there;
         fits = misfit_next dataset.schema q no_refusal ∙ has_no_refusal dataset.schema q.clause plan is;
         picked = pick_is dataset.schema q pick picked;
+        found = picked;
         planned = is;
       }

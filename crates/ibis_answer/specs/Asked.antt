@@ -10,6 +10,7 @@ use Rattle.query_grammar.specs.declared.picking.SelectFault.{SelectFault}
 use Rattle.query_grammar.specs.declared.picking.SelectFault.TheVariants as select
 use Rattle.query_grammar.specs.declared.query.Query.{Query}
 use Rattle.query_grammar.specs.Language.{read_query}
+use Rattle.query_grammar.specs.Picks.{IsPickOf}
 use Rattle.dataset.specs.Found.{Found, There, IsFound}
 use Rattle.query_engine.specs.declared.fault.AskFault.{AskFault}
 use Rattle.query_engine.specs.declared.fault.AskFault.TheVariants as ask
@@ -29,6 +30,7 @@ pub record IsSelection (dir query : List ℕ) (files : Option Files) (selection 
   pub there : IfSome files (λ m. IsFound m dir (There selection.dataset))
   pub fits : misfit selection.dataset.schema asked ≡ None
   pub picked : selection.pick ≡ pick_of selection.dataset.schema asked
+  pub found : IsPickOf selection.dataset.schema asked selection.pick
   pub planned : IsPlan selection.dataset.schema asked.clause selection.plan
 
 -- what is asked is refused so

@@ -3,6 +3,7 @@ use Rattle.answers.specs.Answers.{Tells}
 use Rattle.where_grammar.specs.declared.clause.Clause.{Clause}
 use Rattle.where_plan.specs.Plans.{IsPlan}
 use Rattle.where_plan.specs.Refusals.{refusal, refusal_of}
+use Rattle.ibis_answer.proofs.PickLemmas.{pick_fits}
 use Rattle.ibis_answer.proofs.SelectionLemmas.{name_declines, opening_declines, opening_reads, select_declines, selects_plan, text_declines}
 use Rattle.ibis_answer.proofs.selecting.selected.Goals as goal
 
@@ -56,3 +57,8 @@ returns-clause-selects g c =
     c.in-Ok-parse_query.ensures.exact c.in-Ok-opened.dataset c.in-Ok-opened.ensures.finds c.in-Ok-resolve_select.pick c.in-Ok-resolve_select.ensures.found
     c.in-Ok-resolve_select.ensures.refuses c.in-Err-resolve.fault
     (subst (λ (asked : Option Clause). Tells refusal (λ kind. refusal_of c.in-Ok-opened.dataset.schema asked ≡ Some kind) c.in-Err-resolve.fault) c.as_ref.ensures.value c.in-Err-resolve.ensures.refused))
+
+pub returns-in-Ok-resolve-clause-pick : goal.returns-in-Ok-resolve-clause-pick
+returns-in-Ok-resolve-clause-pick g c =
+    pick_fits c.in-Ok-opened.dataset.schema c.in-Ok-parse_query.query c.in-Ok-resolve_select.pick c.in-Ok.text.now c.in-Ok-parse_query.ensures.found
+    c.in-Ok-resolve_select.ensures.found

@@ -6,3 +6,4 @@ pub mod WorldLemmas
 pub mod LookLemmas
 pub mod EncloseLemmas
 pub mod BoundsLemmas
+pub mod RunLemmas

@@ -101,3 +101,5 @@ mod answer_tests;
 mod listing_tests;
 #[cfg(test)]
 mod tests;
+#[cfg(test)]
+mod tour_tests;

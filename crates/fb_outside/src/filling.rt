@@ -1,6 +1,6 @@
-//! Reads that fill their buffer.
+//! Buffers that are filled as far as the bytes go.
 
-ghost use Rattle.std.specs.Prelude.{◌≤◌, IfOk, length};
+ghost use Rattle.std.specs.Prelude.{◌≡◌, ◌≤◌, ◌-◌, IfOk, drop, length, min, take};
 
 use std::io;
 use std::os::unix::fs::FileExt;
@@ -24,4 +24,18 @@ pub(crate) fn read_full_at<T: FileExt>(file: &T, at: u64, buf: &mut [u8]) -> io:
         filled += n;
     }
     Ok(filled)
+}
+
+/// Gives the bytes from `at` on that fit.
+pub(crate) fn give(bytes: &[u8], at: u64, buf: &mut [u8]) -> usize
+    ensures count { result ≡ min (length buf.old) (length bytes.now - at) }
+    ensures given { take result buf.new ≡ take (length buf.old) (drop at bytes.now) }
+{
+    if at >= bytes.len() as u64 {
+        return 0;
+    }
+    let rest = &bytes[at as usize..];
+    let n = buf.len().min(rest.len());
+    buf[..n].copy_from_slice(&rest[..n]);
+    n
 }

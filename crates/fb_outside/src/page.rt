@@ -2,7 +2,7 @@
 
 ghost use Rattle.std.specs.Prelude.{◌≡◌, ◌≤◌, [], drop, length, take, IfOk};
 
-use crate::filling::read_full_at;
+use crate::filling::{give, read_full_at};
 use std::alloc::{AllocError, Global};
 use std::io;
 use std::marker::Model;
@@ -55,14 +55,8 @@ impl Page {
     /// Gives its bytes from a place in it on, all that fit, and answers how many.
     pub(crate) fn give(&self, place: usize, buf: &mut [u8]) -> usize
         ensures count { result ≤ length buf.new }
-        ensures given { take result buf.new ≡ take (length buf.new) (drop place self.now) }
+        ensures given { take result buf.new ≡ take (length buf.old) (drop place self.now) }
     {
-        if self.filled <= place {
-            return 0;
-        }
-        let rest = &self.bytes[place..self.filled];
-        let n = rest.len().min(buf.len());
-        buf[..n].copy_from_slice(&rest[..n]);
-        n
+        give(&self.bytes[..self.filled], place as u64, buf)
     }
 }

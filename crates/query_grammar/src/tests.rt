@@ -69,6 +69,7 @@ fn shown_kind(alloc: Global, kind: &QueryKind) -> Result<String, AllocError> {
         QueryKind::ListLength => String::from_str(alloc, "ListLength"),
         QueryKind::Unknown(_) => String::from_str(alloc, "Unknown"),
         QueryKind::WrongType(_) => String::from_str(alloc, "WrongType"),
+        QueryKind::NotSelected => String::from_str(alloc, "NotSelected"),
     }
 }
 

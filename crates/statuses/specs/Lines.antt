@@ -67,6 +67,7 @@ query_word query.Depth = codes "Depth"
 query_word query.ListLength = codes "ListLength"
 query_word (query.Unknown name) = codes "Unknown " ++ name
 query_word (query.WrongType name) = codes "WrongType " ++ name
+query_word query.NotSelected = codes "NotSelected"
 
 unfoldable pub damage_word : DamageKind → List ℕ
 damage_word Missing = codes "Missing"

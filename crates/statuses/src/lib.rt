@@ -214,6 +214,7 @@ fn query_kind(alloc: Global, kind: &QueryKind) -> Result<String, AllocError>
             let name = name.as_str();
             format!(in alloc; "WrongType {name}")
         }
+        QueryKind::NotSelected => String::from_str(alloc, "NotSelected"),
     }
 }
 

@@ -17,6 +17,7 @@ mod settling;
 pub use answering::{estimate, evaluate};
 pub use conditions::PartConditions;
 pub use fault::EvalFault;
+pub use placed::PlacedColumn;
 pub use stages::{Bounds, Hits};
 
 #[cfg(test)]

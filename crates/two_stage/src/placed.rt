@@ -36,12 +36,12 @@ use wah_words::Wah;
 
 /// Where the files of a column are: the dataset's path, the part's number and rows, the column and its place in the schema.
 #[derive(Drop)]
-pub(crate) struct PlacedColumn<'a> {
-    pub(crate) dir: &'a FileName,
-    pub(crate) number: u32,
-    pub(crate) rows: u32,
-    pub(crate) col: usize,
-    pub(crate) column: &'a Column,
+pub struct PlacedColumn<'a> {
+    pub dir: &'a FileName,
+    pub number: u32,
+    pub rows: u32,
+    pub col: usize,
+    pub column: &'a Column,
 }
 
 impl<'a> Model for PlacedColumn<'a> {
@@ -148,11 +148,7 @@ impl<'a> PlacedColumn<'a> {
     }
 
     /// The words of a category.
-    pub(crate) fn words<S: Store>(
-        &self,
-        alloc: Global,
-        store: &mut S,
-    ) -> Result<Dictionary, EvalFault>
+    pub fn words<S: Store>(&self, alloc: Global, store: &mut S) -> Result<Dictionary, EvalFault>
         requires { self.now.column.ty ≡ Category }
         ensures cause { HasCause (S.faults store.old) (S.faults store.new) (IsRefused result IsOfStore) }
         ensures files { SameFiles (S.files store.old) (S.files store.new) }
@@ -172,11 +168,7 @@ impl<'a> PlacedColumn<'a> {
     }
 
     /// The column of numbers or codes, whose values can be read.
-    pub(crate) fn numbers<S: Store>(
-        &self,
-        alloc: Global,
-        store: &mut S,
-    ) -> Result<ColumnRef, EvalFault>
+    pub fn numbers<S: Store>(&self, alloc: Global, store: &mut S) -> Result<ColumnRef, EvalFault>
         requires { IsSome (width_of self.now.column.ty) }
         ensures cause { HasCause (S.faults store.old) (S.faults store.new) (IsRefused result IsOfStore) }
         ensures files { SameFiles (S.files store.old) (S.files store.new) }
@@ -200,7 +192,7 @@ impl<'a> PlacedColumn<'a> {
     }
 
     /// The column of texts, which can be read.
-    pub(crate) fn texts<S: Store>(&self, alloc: Global, store: &mut S) -> Result<TextRef, EvalFault>
+    pub fn texts<S: Store>(&self, alloc: Global, store: &mut S) -> Result<TextRef, EvalFault>
         requires { self.now.column.ty ≡ Text }
         ensures cause { HasCause (S.faults store.old) (S.faults store.new) (IsRefused result IsOfStore) }
         ensures files { SameFiles (S.files store.old) (S.files store.new) }

@@ -112,6 +112,7 @@ reader_refused at b bs kind.Depth visible wrong = refused_excess at (b ∷ bs) k
 reader_refused at b bs kind.ListLength visible wrong = refused_excess at (b ∷ bs) kind.ListLength wrong
 reader_refused at b bs (kind.Unknown name) visible wrong = refused_excess at (b ∷ bs) (kind.Unknown name) wrong
 reader_refused at b bs (kind.WrongType name) visible wrong = refused_excess at (b ∷ bs) (kind.WrongType name) wrong
+reader_refused at b bs kind.NotSelected visible wrong = refused_excess at (b ∷ bs) kind.NotSelected wrong
 
 -- ---- the whole text
 

@@ -121,6 +121,8 @@ pub enum QueryKind {
     Unknown(ColName),
     /// A column whose type the condition doesn't fit.
     WrongType(ColName),
+    /// An item of the order that the select list lacks. Callers that read whole queries give it.
+    NotSelected,
 }
 
 /// Why no clause was read.

@@ -14,6 +14,7 @@ fn kind_name(kind: QueryKind) -> &'static str {
         QueryKind::ListLength => "ListLength",
         QueryKind::Unknown(_) => "Unknown",
         QueryKind::WrongType(_) => "WrongType",
+        QueryKind::NotSelected => "NotSelected",
     }
 }
 

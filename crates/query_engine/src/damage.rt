@@ -17,7 +17,7 @@ use two_stage::EvalFault;
 
 /// What a fault of a column in the part is answered by. Memory is asked for only where a file is to be named, so that a failure
 /// of the store is told.
-pub(crate) fn ask_fault(
+pub fn ask_fault(
     alloc: Global,
     dataset: &Dataset,
     part: &PartMeta,

@@ -15,6 +15,7 @@ mod listed;
 
 pub use bounding::bounds;
 pub use choosing::{Chosen, choose};
+pub use damage::ask_fault;
 pub use fault::AskFault;
 pub use laws::{
     estimates_enclose_hits, the_damage_of_columns, the_hits_of_clauses, the_parts_of_a_world,

@@ -1,12 +1,13 @@
 -- How one command ends, and how all do.
 use Rattle.std.proofs.Common.{◌≡◌, ◌≢◌, ◌⊎◌, inl, inr, ℕ, Bool, true, false, List, [], ◌∷◌, ◌++◌, length, take, Option, Some, Result, Ok, Err, refl, sym, ap, subst, ◌∙◌, append-nil, arith}
 use Rattle.std.proofs.Math.Seq.{take-length}
+use Rattle.std.specs.Result.{IsErr}
 use Rattle.fb_outside.specs.Causes.{HasCause, Rose}
 use Rattle.fb_outside.specs.Files.{Files}
 use Rattle.fb_outside.specs.Streams.{ForSomeInput, Grows, GrowsInPart}
 use Rattle.fb_outside.specs.declared.outside.Trouble.{Trouble}
 use Rattle.fb_outside.specs.declared.outside.Trouble.TheVariants as trouble
-use Rattle.fb_outside.proofs.StreamLemmas.{GrowsInPart-none}
+use Rattle.fb_outside.proofs.StreamLemmas.{GrowsInPart-front}
 use Rattle.world.specs.World.{World}
 use Rattle.world.specs.Stands.{Stands, StandsFor}
 use Rattle.world.specs.Effects.{Effect, after}
@@ -16,8 +17,12 @@ use Rattle.statuses.specs.Outcome.{Outcome}
 use Rattle.commands.specs.Command.{Command, command_outcome}
 use Rattle.commands.specs.Effects.{LeavesAfter}
 use Rattle.commands.specs.Reply.{Replies, RepliesBy, is_fault}
-use Rattle.gen_run.specs.Made.{effects_of, gen_outcome, texts_of}
+use Rattle.ardea.specs.Load.{loaded_line}
+use Rattle.generator.specs.Generated.{generated}
+use Rattle.generator.proofs.GeneratedLemmas.{generated-length}
+use Rattle.gen_run.specs.Made.{effects_of, gen_outcome, made_commands, made_world, texts_of}
 use Rattle.gen_run.specs.Ran.{IsGenEnd, PrintsBy, Ran, RanIn, StandsBy, ending_of, status_of}
+use Rattle.gen_run.proofs.RanLemmas.{prints_then}
 
 -- ---- one command
 
@@ -128,3 +133,23 @@ status_cause before now result h = record {
 -- a call whose objects never fail has no such cause
 pub never : (failed : Type 0) → HasCause 0 0 failed → failed → ⊥
 never failed h e = let rose = h.rose e in omega (arith, rose)
+
+-- ---- the line of the load, and then the commands
+
+abbrev gen_text : (number rows seed : ℕ) → List ℕ
+gen_text number rows seed = loaded_line number ++ texts_of made_commands (made_world rows seed)
+
+-- the line couldn't be printed
+pub gen_stops : (rows seed : ℕ) (before now : Option (List ℕ)) (result : Result (Unit {0}) Trouble) → IsErr result
+    → GrowsInPart before now (loaded_line rows) → PrintsBy (gen_outcome rows seed).text before now result
+gen_stops rows seed before now (Ok done) is h = absurd (cc)
+gen_stops rows seed before now (Err why) is h =
+    subst (λ (number : ℕ). GrowsInPart before now (gen_text number rows seed)) (sym (generated-length rows seed))
+    (GrowsInPart-front before now (loaded_line rows) (texts_of made_commands (made_world rows seed)) h)
+
+-- it was, and the commands ran behind it
+pub gen_prints : (rows seed : ℕ) (before between now : Option (List ℕ)) (result : Result (Unit {0}) Trouble) → Grows before between (loaded_line rows)
+    → PrintsBy (texts_of made_commands (made_world rows seed)) between now result → PrintsBy (gen_outcome rows seed).text before now result
+gen_prints rows seed before between now result h k =
+    subst (λ (number : ℕ). PrintsBy (gen_text number rows seed) before now result) (sym (generated-length rows seed))
+    (prints_then (loaded_line rows) (texts_of made_commands (made_world rows seed)) before between now result h k)

@@ -1,3 +1,4 @@
+pub mod PathLemmas
 pub mod RanLemmas
 pub mod EndLemmas
 pub mod LoadLemmas

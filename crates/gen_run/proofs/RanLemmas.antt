@@ -1,6 +1,6 @@
 -- What commands print and do one after another.
 use Rattle.std.proofs.Common.{◌≡◌, ℕ, List, [], ◌∷◌, ◌++◌, length, take, Option, Result, Ok, Err, refl, sym, ap, subst, ◌∙◌, append_assoc, append-nil}
-use Rattle.std.proofs.Math.Seq.{take-length}
+use Rattle.std.specs.Result.{IsErr}
 use Rattle.fb_outside.specs.Files.{Files}
 use Rattle.fb_outside.specs.Streams.{Grows, GrowsInPart}
 use Rattle.fb_outside.specs.declared.outside.Trouble.{Trouble}
@@ -62,9 +62,10 @@ ran_then xs ys old mid new before between now done result h k w stands =
     }
 
 -- these stopped, so that those didn't run
-pub ran_stops : (xs ys : List Command) (old new : Files) (before now : Option (List ℕ)) (why : Trouble)
-    → Ran xs old new before now (Err why) → Ran (xs ++ ys) old new before now (Err why)
-ran_stops xs ys old new before now why h w stands =
+pub ran_stops : (xs ys : List Command) (old new : Files) (before now : Option (List ℕ)) (why : Trouble) (result : Result (Unit {0}) Trouble)
+    → IsErr result → Ran xs old new before now (Err why) → Ran (xs ++ ys) old new before now result
+ran_stops xs ys old new before now why (Ok done) is h w stands = absurd (cc)
+ran_stops xs ys old new before now why (Err other) is h w stands =
     let next = after w (effects_of xs w) in
     record {
       prints =
@@ -74,11 +75,18 @@ ran_stops xs ys old new before now why h w stands =
     }
 
 -- none of them ran
-pub ran_not : (xs : List Command) (old new : Files) (before now : Option (List ℕ)) (why : Trouble) → now ≡ before → Ran xs old new before now (Err why)
-ran_not xs old new before now why same w stands = record { prints = GrowsInPart-none before now (texts_of xs w) same; stands = tt }
+pub ran_not : (xs : List Command) (old new : Files) (before now : Option (List ℕ)) (result : Result (Unit {0}) Trouble) → IsErr result → now ≡ before
+    → Ran xs old new before now result
+ran_not xs old new before now (Ok done) is same w stands = absurd (cc)
+ran_not xs old new before now (Err why) is same w stands = record { prints = GrowsInPart-none before now (texts_of xs w) same; stands = tt }
 
 -- some of them ran
-pub ran_some : (xs ys : List Command) (old mid new : Files) (before now : Option (List ℕ)) (done : Unit {0}) (why : Trouble)
-    → Ran xs old mid before now (Ok done) → Ran (xs ++ ys) old new before now (Err why)
-ran_some xs ys old mid new before now done why h =
-    ran_then xs ys old mid new before now now done (Err why) h (ran_not ys mid new now now why refl)
+pub ran_some : (xs ys : List Command) (old mid new : Files) (before now : Option (List ℕ)) (done : Unit {0}) (result : Result (Unit {0}) Trouble)
+    → IsErr result → Ran xs old mid before now (Ok done) → Ran (xs ++ ys) old new before now result
+ran_some xs ys old mid new before now done result is h =
+    ran_then xs ys old mid new before now now done result h (ran_not ys mid new now now result is refl)
+
+-- with nothing behind them
+pub ran_last : (xs : List Command) (old new : Files) (before now : Option (List ℕ)) (result : Result (Unit {0}) Trouble)
+    → Ran xs old new before now result → Ran (xs ++ []) old new before now result
+ran_last xs old new before now result h = subst (λ (all : List Command). Ran all old new before now result) (sym (append-nil xs)) h

@@ -6,3 +6,5 @@ pub mod ValueLemmas
 pub mod DamageLemmas
 pub mod OpenLemmas
 pub mod StepLemmas
+pub mod FillLemmas
+pub mod BlockLemmas

@@ -138,6 +138,20 @@ rows_of_first room (run ∷ runs) =
     let one = rows_of_more cut [] in
     ap rows_of_runs (first_cut room run runs some long) ∙ omega (arith, rows, one, long))
 
+-- how many are behind them
+pub rows_of_later : (room : ℕ) (runs : List PartRun) → rows_of_runs (later_runs room runs) ≡ rows_of_runs runs - room
+unfolding later_runs
+rows_of_later room [] = omega arith
+rows_of_later room (run ∷ runs) =
+    let rows = rows_of_more run runs in
+    by_room room run
+    (λ none. ap rows_of_runs (ap (λ n. later_runs n (run ∷ runs)) none ∙ later_none (run ∷ runs)) ∙ omega (arith, none))
+    (λ some fits. let rest = rows_of_later (room - rows_of_run run) runs in
+    ap rows_of_runs (later_whole room run runs some fits) ∙ omega (arith, rows, rest, fits))
+    (λ some long. let cut : PartRun = record run { first = run.first + room } in
+    let left = rows_of_more cut runs in
+    ap rows_of_runs (later_cut room run runs some long) ∙ omega (arith, rows, left, long))
+
 -- the first rows of the first rows
 pub first_of_first : (a b : ℕ) (runs : List PartRun) → first_runs a (first_runs b runs) ≡ first_runs (min a b) runs
 unfolding first_runs

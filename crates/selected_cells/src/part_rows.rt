@@ -1,6 +1,6 @@
 //! The selected cells of the chosen rows of a part.
 
-ghost use Rattle.std.specs.Prelude.{◌≡◌, ◌+◌, ◌-◌, ◌<◌, ◌≤◌, ◌++◌, List, IfErr, IfOk, IfSome, IsErrOf, OnOk, length, min, slice_get};
+ghost use Rattle.std.specs.Prelude.{◌≡◌, ◌⊎◌, ◌+◌, ◌-◌, ◌<◌, ◌≤◌, ◌++◌, [], List, IfErr, IfOk, IfSome, IsErrOf, OnOk, length, slice_get};
 ghost use Rattle.std.specs.List.{AllByRecursion, sum_by};
 ghost use Rattle.fb_outside.specs.Causes.{HasCause};
 ghost use Rattle.fb_outside.specs.Files.{SameFiles};
@@ -8,7 +8,6 @@ ghost use Rattle.fb_outside.specs.Reads.{AddsOnly};
 ghost use Rattle.wah_iter.specs.Rows.{runs_of};
 ghost use Rattle.wah_words.specs.Spelling.{words_of};
 ghost use Rattle.dataset.specs.Opened.{IsDataset};
-ghost use Rattle.candidates.specs.Reads.{AddsAll};
 ghost use Rattle.world.specs.World.{Partition};
 ghost use Rattle.query_engine.specs.Damage.{IfDamaged, NoDamage};
 ghost use Rattle.query_engine.specs.Parts.{AreParts};
@@ -17,9 +16,9 @@ ghost use Rattle.selected_cells.specs.Damages.{IsSelectedDamaged};
 ghost use Rattle.selected_cells.specs.Items.{FitsItem};
 ghost use Rattle.selected_cells.specs.Opened.{AreOpenIn, columns_at};
 ghost use Rattle.selected_cells.specs.Present.{present_words};
-ghost use Rattle.selected_cells.specs.Reads.{IsRunLook, looks_over};
-ghost use Rattle.selected_cells.specs.Runs.{first_runs, later_runs, rows_of_runs, selected_over};
-ghost use Rattle.selected_cells.specs.Walks.{AreInStep, IsInStep, mask_words, runs_at};
+ghost use Rattle.selected_cells.specs.Reads.{IsRunLook};
+ghost use Rattle.selected_cells.specs.Runs.{first_runs};
+ghost use Rattle.selected_cells.specs.Walks.{AreInStep, Fills, IsInStep, mask_words, runs_at};
 
 use crate::listed::listed_part;
 use crate::open_part::{OpenPart, read_span};
@@ -60,9 +59,7 @@ impl<'a> Model for PartRows<'a> {
     ghost Value = { PartLeft };
 
     ghost view = { λ s. record {
-      dataset = s.part.dataset.now;
-      items = s.part.items.now;
-      opened = s.opened.now;
+      selection = record { dataset = s.part.dataset.now; items = s.part.items.now; opened = s.opened.now };
       place = s.part.place;
       runs = s.spans.runs;
       words = s.spans.words + sum_by present_words s.presents.items;
@@ -88,7 +85,7 @@ impl<'a> PartRows<'a> {
         requires place { place < length dataset.now.parts }
         requires opened { place < length opened.now }
         requires rows { IfSome (slice_get dataset.now.parts place) (λ part. length chosen.now ≡ part.rows) }
-        ensures over { IfOk result (λ walk. (walk.dataset ≡ dataset.now) × (walk.items ≡ items.now) × (walk.opened ≡ opened.now) × (walk.place ≡ place)) }
+        ensures over { IfOk result (λ walk. (walk.selection ≡ record { dataset = dataset.now; items = items.now; opened = opened.now }) × (walk.place ≡ place)) }
         ensures runs { IfOk result (λ walk. walk.runs ≡ runs_of chosen.now) }
         ensures words { IfOk result (λ walk. walk.words ≡ words_of chosen.now + sum_by mask_words (columns_at (slice_get opened.now place))) }
     {
@@ -119,26 +116,23 @@ impl<'a> PartRows<'a> {
         rows: &mut Vec<Items<Cell>>,
         steps: &mut Steps<L>,
     ) -> Result<(), AskFault>
-        requires opened { AreOpenIn (S.files store.old) self.old.dataset self.old.items self.old.opened }
+        requires opened { AreOpenIn (S.files store.old) self.old.selection.dataset self.old.selection.items self.old.selection.opened }
         requires block { length block.old ≡ 4096 }
         requires few { until ≤ 4096 }
         requires room { length rows.old.items ≤ until }
         ensures cause { HasCause (S.faults store.old) (S.faults store.new) (IsErrOf result AskFault.Store) }
         ensures files { SameFiles (S.files store.old) (S.files store.new) }
-        ensures stop { IfErr result (λ fault. IfDamaged fault (IsSelectedDamaged (S.files store.old) self.old.dataset self.old.items)) }
-        ensures reads { AddsOnly (IsRunLook self.old.opened (first_runs (until - length rows.old.items) (runs_at self.old))) (S.reads store.old) (S.reads store.new) }
-        ensures same { (self.new.dataset ≡ self.old.dataset) × (self.new.items ≡ self.old.items) × (self.new.opened ≡ self.old.opened) × (self.new.place ≡ self.old.place) }
+        ensures stop { IfErr result (λ fault. IfDamaged fault (IsSelectedDamaged (S.files store.old) self.old.selection.dataset self.old.selection.items)) }
+        ensures reads { AddsOnly (IsRunLook self.old.selection.opened (first_runs (until - length rows.old.items) (runs_at self.old))) (S.reads store.old) (S.reads store.new) }
+        ensures same { self.new.selection ≡ self.old.selection }
         ensures block { length block.new ≡ length block.old }
-        ensures left { OnOk result (runs_at self.new ≡ later_runs (until - length rows.old.items) (runs_at self.old)) }
-        ensures count { OnOk result (length rows.new.items ≡ min until (length rows.old.items + rows_of_runs (runs_at self.old))) }
-        ensures each { OnOk result (AddsAll (S.files store.old) (S.reads store.old) (S.reads store.new)
-            (looks_over self.old.opened (first_runs (until - length rows.old.items) (runs_at self.old)))) }
+        ensures fills { OnOk result (Fills (S.files store.old) self.old.selection (until - length rows.old.items)
+            (runs_at self.old) (runs_at self.new) rows.old.items rows.new.items (S.reads store.old) (S.reads store.new)) }
+        ensures ends { OnOk result ((length rows.new.items ≡ until) ⊎ (runs_at self.new ≡ [])) }
         ensures steps { steps.new + self.new.words ≡ steps.old + self.old.words }
 
         // Where the files rest for the parts.
-        ensures rows { OnOk result ((parts : List Partition) → AreParts (S.files store.old) self.old.dataset parts
-            → rows.new.items ≡ rows.old.items ++ selected_over self.old.items parts (first_runs (until - length rows.old.items) (runs_at self.old))) }
-        ensures whole { IfErr result (λ fault. (parts : List Partition) → AreParts (S.files store.old) self.old.dataset parts → NoDamage fault) }
+        ensures whole { IfErr result (λ fault. (parts : List Partition) → AreParts (S.files store.old) self.old.selection.dataset parts → NoDamage fault) }
     {
         while rows.len() < until {
             let room = (until - rows.len()) as u32;

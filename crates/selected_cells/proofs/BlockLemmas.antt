@@ -23,7 +23,7 @@ use Rattle.selected_cells.specs.Reads.{IsRunLook, looks_of_columns, looks_over}
 use Rattle.selected_cells.specs.Runs.{PartRun, first_runs, later_runs, records_of_run, rows_of_run, rows_of_runs, run_at, runs_in, runs_over, selected_over}
 use Rattle.selected_cells.specs.Walks.{Fills, Selection, mask_words, words_over}
 use Rattle.selected_cells.specs.declared.opened.SelectedPart.{SelectedPart}
-use Rattle.selected_cells.proofs.RunLemmas.{first_none, first_of_both, first_of_first, later_none, later_of_both, later_of_first, rows_of_first, rows_of_later}
+use Rattle.selected_cells.proofs.RunLemmas.{first_none, first_of_none, first_of_both, first_of_first, later_none, later_of_none, later_of_both, later_of_first, rows_of_first, rows_of_later}
 
 -- ---- how many rows there are
 
@@ -186,15 +186,7 @@ block_of files s room old new before rows reads now none h ends =
     ended (inl full) count =
         let no : room - rows_of_runs h.done ≡ 0 = omega (arith, full, count) in
         (ap (λ n. first_runs n new) no ∙ first_none new, ap (λ n. later_runs n new) no ∙ later_none new)
-    ended (inr over) count = (ap (first_runs (room - rows_of_runs h.done)) over ∙ no_first (room - rows_of_runs h.done), ap (later_runs (room - rows_of_runs h.done)) over ∙ no_later (room - rows_of_runs h.done) ∙ sym over)
-      where
-        no_first : (n : ℕ) → first_runs n [] ≡ []
-        unfolding first_runs
-        no_first n = refl
-
-        no_later : (n : ℕ) → later_runs n [] ≡ []
-        unfolding later_runs
-        no_later n = refl
+    ended (inr over) count = (ap (first_runs (room - rows_of_runs h.done)) over ∙ first_of_none (room - rows_of_runs h.done), ap (later_runs (room - rows_of_runs h.done)) over ∙ later_of_none (room - rows_of_runs h.done) ∙ sym over)
 
 -- ---- the next part
 

@@ -21,6 +21,14 @@ not_le n m h = grind (arith, nat_tests)
 not_none : (n : ℕ) → 0 < n → eqb n 0 ≡ false
 not_none n h = grind (arith, nat_tests)
 
+pub first_of_none : (room : ℕ) → first_runs room [] ≡ []
+unfolding first_runs
+first_of_none room = refl
+
+pub later_of_none : (room : ℕ) → later_runs room [] ≡ []
+unfolding later_runs
+later_of_none room = refl
+
 -- no room
 pub first_none : (runs : List PartRun) → first_runs 0 runs ≡ []
 unfolding first_runs

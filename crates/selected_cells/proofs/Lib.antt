@@ -8,3 +8,5 @@ pub mod OpenLemmas
 pub mod StepLemmas
 pub mod FillLemmas
 pub mod BlockLemmas
+pub mod ChosenLemmas
+pub mod LawLemmas

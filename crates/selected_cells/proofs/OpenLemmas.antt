@@ -33,24 +33,26 @@ use Rattle.selected_cells.proofs.DamageLemmas.{item_at}
 
 -- ---- reads
 
-whole_opens : (files : Option Files) (p : Placed) (kind : FileKind) → IsOpeningKind kind → (look : Look)
+whole_opens : (files : Option Files) (p : Placed) (kind : FileKind) → IsOpeningKind p.column.ty kind → (look : Look)
     → IsWholeLook files (file_name p.dir p.number (Some p.column.name) kind) look → IsOpeningOf p look
 whole_opens files p kind opens look is = record { kind = kind; is_kind = opens; named = is.of_it }
 
-either_opens : (files : Option Files) (p : Placed) (look : Look) → IsWholeLook files (starts_file p) look ⊎ IsWholeLook files (mask_file p) look → IsOpeningOf p look
-either_opens files p look (inl is) = whole_opens files p file.Starts tt look is
-either_opens files p look (inr is) = whole_opens files p file.Mask tt look is
+either_opens : (files : Option Files) (p : Placed) → p.column.ty ≡ Text → (look : Look)
+    → IsWholeLook files (starts_file p) look ⊎ IsWholeLook files (mask_file p) look → IsOpeningOf p look
+either_opens files p ty look (inl is) = whole_opens files p file.Starts ty look is
+either_opens files p ty look (inr is) = whole_opens files p file.Mask tt look is
 
 pub mask_opens : (files : Option Files) (p : Placed) (old new : Option (List Look)) → AddsOnly (IsWholeLook files (mask_file p)) old new → AddsOnly (IsOpeningOf p) old new
 mask_opens files p old new h = AddsOnly-weaken (IsWholeLook files (mask_file p)) (IsOpeningOf p) old new (whole_opens files p file.Mask tt) h
 
-pub words_open : (files : Option Files) (p : Placed) (old new : Option (List Look)) → AddsOnly (IsWholeLook files (words_file p)) old new → AddsOnly (IsOpeningOf p) old new
-words_open files p old new h = AddsOnly-weaken (IsWholeLook files (words_file p)) (IsOpeningOf p) old new (whole_opens files p file.Words tt) h
+pub words_open : (files : Option Files) (p : Placed) (old new : Option (List Look)) → p.column.ty ≡ Category → AddsOnly (IsWholeLook files (words_file p)) old new
+    → AddsOnly (IsOpeningOf p) old new
+words_open files p old new ty h = AddsOnly-weaken (IsWholeLook files (words_file p)) (IsOpeningOf p) old new (whole_opens files p file.Words ty) h
 
-pub texts_open : (files : Option Files) (p : Placed) (old new : Option (List Look))
+pub texts_open : (files : Option Files) (p : Placed) (old new : Option (List Look)) → p.column.ty ≡ Text
     → AddsOnly (λ look. IsWholeLook files (starts_file p) look ⊎ IsWholeLook files (mask_file p) look) old new → AddsOnly (IsOpeningOf p) old new
-texts_open files p old new h =
-    AddsOnly-weaken (λ look. IsWholeLook files (starts_file p) look ⊎ IsWholeLook files (mask_file p) look) (IsOpeningOf p) old new (either_opens files p) h
+texts_open files p old new ty h =
+    AddsOnly-weaken (λ look. IsWholeLook files (starts_file p) look ⊎ IsWholeLook files (mask_file p) look) (IsOpeningOf p) old new (either_opens files p ty) h
 
 -- of an item, and of a part
 pub item_opens : (dir : List ℕ) (part : PartMeta) (items : List PickItem) (place : ℕ) (item : PickItem) (old new : Option (List Look)) → slice_get items place ≡ Some item

@@ -111,6 +111,15 @@ in_runs place (true ∷ v) row =
     ∙ ap (λ b. in_one place (place + 1) row || b) (in_runs (place + 1) v row) ∙ row_first place row true v
 in_runs place (false ∷ v) row = in_runs (place + 1) v row ∙ row_first place row false v
 
+-- the row is in a run exactly where the vector is true
+pub rows_in_runs : (v : List Bool) (row : ℕ) → is_in_run (runs_of v) row ≡ get_or v row false
+rows_in_runs v row = in_runs 0 v row ∙ from_top
+  where
+    from_top : is_row 0 v row ≡ get_or v row false
+    from_top =
+        let all : row - 0 ≡ row = omega arith in
+        ap (λ t. t && get_or v (row - 0) false) (le-leb 0 row (omega arith)) ∙ ap (λ n. get_or v n false) all
+
 -- ---- walks over these runs
 
 -- before the first run
@@ -118,16 +127,11 @@ pub tells_all : (rows : List Bool) → TellsFrom ((0, 0) ∷ runs_of rows) 0 row
 tells_all rows =
     let order = runs_in_order 0 rows in record {
       ordered = (omega arith, order.0, order.1);
-      each = λ row low. passed row (is_in_run (runs_of rows) row) ∙ in_runs 0 rows row ∙ from_top row;
+      each = λ row low. passed row (is_in_run (runs_of rows) row) ∙ rows_in_runs rows row;
     }
   where
     passed : (row : ℕ) (rest : Bool) → (nat_le 0 row && nat_lt row 0 || rest) ≡ rest
     passed row rest = grind (arith, nat_tests)
-
-    from_top : (row : ℕ) → is_row 0 rows row ≡ get_or rows row false
-    from_top row =
-        let all : row - 0 ≡ row = omega arith in
-        ap (λ t. t && get_or rows (row - 0) false) (le-leb 0 row (omega arith)) ∙ ap (λ n. get_or rows n false) all
 
 pub tells_more : (runs : List (ℕ × ℕ)) (from to : ℕ) (rows : List Bool) → TellsFrom runs from rows → from ≤ to → TellsFrom runs to rows
 tells_more runs from to rows h more = record { ordered = h.ordered; each = λ row low. h.each row (omega (arith, low, more)) }

@@ -3,6 +3,8 @@ use Rattle.std.specs.Prelude.{◌≡◌, ⊤, ℕ, ◌||◌, Bool, false, List, 
 use Rattle.std.specs.List.{flat_map, list_any}
 use Rattle.fb_outside.specs.Reads.{Look}
 use Rattle.fb_types.specs.declared.schemas.Column.{Column}
+use Rattle.fb_types.specs.declared.types.ColType.{ColType}
+use Rattle.fb_types.specs.declared.types.ColType.TheVariants.{Category, Text}
 use Rattle.part_meta.specs.FileNames.{file_name}
 use Rattle.part_meta.specs.declared.names.FileKind.{FileKind}
 use Rattle.part_meta.specs.declared.names.FileKind.TheVariants as file
@@ -75,16 +77,16 @@ pub record IsRunLook (opened : List SelectedPart) (runs : List PartRun) (look : 
 -- ---- opening
 
 -- to open a column its mask is read, and the starts of texts or the words of a category; none of its values
-abbrev pub IsOpeningKind : FileKind → Type 0
-IsOpeningKind file.Mask = ⊤
-IsOpeningKind file.Starts = ⊤
-IsOpeningKind file.Words = ⊤
-IsOpeningKind kind = ⊥
+abbrev pub IsOpeningKind : ColType → FileKind → Type 0
+IsOpeningKind ty file.Mask = ⊤
+IsOpeningKind ty file.Starts = ty ≡ Text
+IsOpeningKind ty file.Words = ty ≡ Category
+IsOpeningKind ty kind = ⊥
 
 -- the read is of such a file of the column
 pub record IsOpeningOf (p : Placed) (look : Look) : Type 0 where
   pub kind : FileKind
-  pub is_kind : IsOpeningKind kind
+  pub is_kind : IsOpeningKind p.column.ty kind
   pub named : look.name ≡ file_name p.dir p.number (Some p.column.name) kind
 
 -- it opens the column of one of these items, in the part

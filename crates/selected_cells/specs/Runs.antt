@@ -1,6 +1,6 @@
 -- Runs of chosen rows in the parts of a dataset, and the selected cells of their records.
-use Rattle.std.specs.Prelude.{ℕ, ◌+◌, ◌-◌, ◌==◌, Bool, List, [], ◌∷◌, ◌++◌, map, drop, take, Option, Some, None, slice_get, if◌then◌else◌, nat_le}
-use Rattle.std.specs.List.{flat_map, sum_by}
+use Rattle.std.specs.Prelude.{◌≡◌, ℕ, ◌+◌, ◌-◌, ◌<◌, ◌≤◌, ◌==◌, Bool, true, false, get_or, List, [], ◌∷◌, ◌++◌, map, drop, take, Option, Some, None, slice_get, if◌then◌else◌, nat_le}
+use Rattle.std.specs.List.{AllByRecursion, flat_map, sum_by}
 use Rattle.fb_types.specs.declared.cells.Cell.{Cell}
 use Rattle.wah_iter.specs.Rows.{runs_of}
 use Rattle.query_grammar.specs.declared.picking.PickItem.{PickItem}
@@ -46,6 +46,16 @@ later_runs room (run ∷ runs) =
     if room == 0 then run ∷ runs
     else if nat_le (rows_of_run run) room then later_runs (room - rows_of_run run) runs
     else record run { first = run.first + room } ∷ runs
+
+-- The run is of rows that are chosen in its part, and of one at least.
+pub record IsChosen (chosen : List (List Bool)) (run : PartRun) : Type 0 where
+  pub some : run.first < run.past
+  pub rows : List Bool
+  pub of_part : slice_get chosen run.place ≡ Some rows
+  pub each : (row : ℕ) → run.first ≤ row → row < run.past → get_or rows row false ≡ true
+
+abbrev pub AreChosen : List (List Bool) → List PartRun → Type 0
+AreChosen chosen runs = AllByRecursion (IsChosen chosen) runs
 
 -- ---- their records
 

@@ -14,7 +14,7 @@ mod present;
 mod row_blocks;
 mod spans;
 
-pub use laws::the_rows_of_blocks;
+pub use laws::{the_reads_of_blocks, the_rows_of_blocks, the_runs_of_blocks};
 pub use opened::{SelectedPart, open_selected};
 pub use row_blocks::RowBlocks;
 

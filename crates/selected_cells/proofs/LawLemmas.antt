@@ -34,7 +34,7 @@ use Rattle.two_stage.proofs.RowReadLemmas.{numbers_of_rows, texts_of_rows}
 use Rattle.query_engine.specs.Parts.{AreParts, rows_chosen}
 use Rattle.query_engine.proofs.PartLemmas.{item_at, listed_at, part_at, place_in_list}
 use Rattle.selected_cells.specs.Items.{FitsItem, HasItem, column_of}
-use Rattle.selected_cells.specs.Opened.{AreOpenIn, IsColumnOf, IsItemColumn, IsValuesOf}
+use Rattle.selected_cells.specs.Opened.{AreOpenIn, IsValuesOf}
 use Rattle.selected_cells.specs.Reads.{IsOpening, IsOpeningKind, IsOpeningOf, IsRunLook, is_selected_in, is_selected_of, is_selected_over, look_of}
 use Rattle.selected_cells.specs.Runs.{AreChosen, IsChosen, PartRun, first_runs}
 use Rattle.selected_cells.specs.declared.opened.ItemColumn.TheVariants as item
@@ -43,6 +43,7 @@ use Rattle.selected_cells.specs.declared.opened.SelectedColumn.TheVariants.{Numb
 use Rattle.selected_cells.specs.declared.opened.SelectedPart.{SelectedPart}
 use Rattle.selected_cells.proofs.ChosenLemmas.{chosen_first, few_first}
 use Rattle.selected_cells.proofs.DamageLemmas.{item_column, part_column}
+use Rattle.selected_cells.proofs.OpenLemmas.{own_column}
 
 -- ---- some item of some part
 
@@ -128,13 +129,6 @@ rows_allowed files dir meta part col (Texts opened) rows look first past at belo
     texts_of_rows dir part.number its opened rows look (values.name ∙ ap (λ n. values_name dir n its.name) number)
     (has_texts files dir meta part col opened at below values).starts (no_width its.ty values.typed)
     (record { first = first; past = past; some = some; few = few; is = is; within = within })
-
--- the column that an item has of its own
-own_column : (files : Option Files) (dir : List ℕ) (meta : PartMeta) (before : List PickItem) (o : Option ℕ) (col : ℕ) (column : SelectedColumn)
-    → IsItemColumn files dir meta before o (item.Own col column) → (o ≡ Some col) × IsColumnOf files (placed_at dir meta col) column
-own_column files dir meta before None col column h = absurd h
-own_column files dir meta before (Some c) col column h =
-    (ap (λ n. Some n) (sym h.0), subst (λ (n : ℕ). IsColumnOf files (placed_at dir meta n) column) (sym h.0) h.2)
 
 -- the rows that are chosen in a part are those of its partition
 chosen_at : (plan : Plan) (parts : List Partition) (place : ℕ) (rows : List Bool) (part : Partition) → slice_get (rows_chosen plan parts) place ≡ Some rows

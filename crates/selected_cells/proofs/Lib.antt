@@ -6,6 +6,7 @@ pub mod ValueLemmas
 pub mod DamageLemmas
 pub mod OpenLemmas
 pub mod StepLemmas
+pub mod ItemLemmas
 pub mod FillLemmas
 pub mod BlockLemmas
 pub mod ChosenLemmas

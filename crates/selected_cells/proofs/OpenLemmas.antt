@@ -27,9 +27,11 @@ use Rattle.selected_cells.specs.Items.{column_of}
 use Rattle.selected_cells.specs.Opened.{AreOpenIn, IsColumnOf, IsItemColumn, IsOpenedOf}
 use Rattle.selected_cells.specs.Reads.{IsOpening, IsOpeningKind, IsOpeningOf, IsPartOpening}
 use Rattle.selected_cells.specs.declared.opened.ItemColumn.{ItemColumn}
+use Rattle.selected_cells.specs.declared.opened.ItemColumn.TheVariants as item
+use Rattle.selected_cells.specs.declared.opened.SelectedColumn.{SelectedColumn}
 use Rattle.selected_cells.specs.declared.opened.SelectedColumn.TheVariants.{Numbers, Words, Texts}
 use Rattle.selected_cells.specs.declared.opened.SelectedPart.{SelectedPart}
-use Rattle.selected_cells.proofs.DamageLemmas.{item_at}
+use Rattle.selected_cells.proofs.DamageLemmas.{item_at, only_item}
 
 -- ---- reads
 
@@ -53,6 +55,13 @@ pub texts_open : (files : Option Files) (p : Placed) (old new : Option (List Loo
     → AddsOnly (λ look. IsWholeLook files (starts_file p) look ⊎ IsWholeLook files (mask_file p) look) old new → AddsOnly (IsOpeningOf p) old new
 texts_open files p old new ty h =
     AddsOnly-weaken (λ look. IsWholeLook files (starts_file p) look ⊎ IsWholeLook files (mask_file p) look) (IsOpeningOf p) old new (either_opens files p ty) h
+
+-- of the column of an item
+pub column_opens : (dir : List ℕ) (part : PartMeta) (item : PickItem) (col : ℕ) (p : Placed) (old new : Option (List Look)) → p ≡ placed_at dir part col → column_of item ≡ Some col
+    → AddsOnly (IsOpeningOf p) old new → AddsOnly (IsPartOpening dir part (item ∷ [])) old new
+column_opens dir part item col p old new at is h =
+    AddsOnly-weaken (IsOpeningOf p) (IsPartOpening dir part (item ∷ [])) old new
+    (λ look opens. record { col = col; of_item = only_item item col is; is = subst (λ (q : Placed). IsOpeningOf q look) at opens }) h
 
 -- of an item, and of a part
 pub item_opens : (dir : List ℕ) (part : PartMeta) (items : List PickItem) (place : ℕ) (item : PickItem) (old new : Option (List Look)) → slice_get items place ≡ Some item
@@ -135,6 +144,13 @@ texts_opened files p text ty is long opens = record {
       (λ m. mask_in p.rows (file_at m (mask_file p)) ≡ Ok text.mask)
       (λ m h. mask_of_text p.rows (file_at m (values_file p)) (file_at m (starts_file p)) (file_at m (mask_file p)) text.starts.items text.mask h) opens;
 }
+
+-- that an item has of its own
+pub own_column : (files : Option Files) (dir : List ℕ) (meta : PartMeta) (before : List PickItem) (o : Option ℕ) (col : ℕ) (column : SelectedColumn)
+    → IsItemColumn files dir meta before o (item.Own col column) → (o ≡ Some col) × IsColumnOf files (placed_at dir meta col) column
+own_column files dir meta before None col column h = absurd h
+own_column files dir meta before (Some c) col column h =
+    (ap (λ n. Some n) (sym h.0), subst (λ (n : ℕ). IsColumnOf files (placed_at dir meta n) column) (sym h.0) h.2)
 
 -- ---- one more item, and one more part
 

@@ -246,23 +246,27 @@ later_of_first a b (run ∷ runs) =
 
 -- ---- the law: what is read first, and what is behind it
 
-take_none : {X : Type 0} (n : ℕ) → ◌≡◌ {A = List X} (take n []) []
-take_none zero = refl
-take_none (suc n) = refl
+take_both : (a b : ℕ) (xs : List (List Cell)) → take a xs ++ take b (drop a xs) ≡ take (a + b) xs
+take_both zero b xs = let e : 0 + b ≡ b = omega arith in sym (ap (λ n. take n xs) e)
+take_both (suc a) b [] = none b ∙ sym (none (suc a + b))
+  where
+    none : (n : ℕ) → ◌≡◌ {A = List (List Cell)} (take n []) []
+    none zero = refl
+    none (suc n) = refl
+take_both (suc a) b (x ∷ xs) =
+    let e : suc a + b ≡ suc (a + b) = omega arith in
+    ap (λ l. x ∷ l) (take_both a b xs) ∙ sym (ap (λ n. take n (x ∷ xs)) e)
 
-take_both : {X : Type 0} (a b : ℕ) (xs : List X) → take a xs ++ take b (drop a xs) ≡ take (a + b) xs
-take_both zero b xs = refl
-take_both (suc a) b [] = take_none b
-take_both (suc a) b (x ∷ xs) = ap (λ l. x ∷ l) (take_both a b xs)
-
-drop_none : {X : Type 0} (n : ℕ) → ◌≡◌ {A = List X} (drop n []) []
-drop_none zero = refl
-drop_none (suc n) = refl
-
-drop_both : {X : Type 0} (a b : ℕ) (xs : List X) → drop b (drop a xs) ≡ drop (a + b) xs
-drop_both zero b xs = refl
-drop_both (suc a) b [] = drop_none b
-drop_both (suc a) b (x ∷ xs) = drop_both a b xs
+drop_both : (a b : ℕ) (xs : List (List Cell)) → drop b (drop a xs) ≡ drop (a + b) xs
+drop_both zero b xs = let e : 0 + b ≡ b = omega arith in sym (ap (λ n. drop n xs) e)
+drop_both (suc a) b [] = none b ∙ sym (none (suc a + b))
+  where
+    none : (n : ℕ) → ◌≡◌ {A = List (List Cell)} (drop n []) []
+    none zero = refl
+    none (suc n) = refl
+drop_both (suc a) b (x ∷ xs) =
+    let e : suc a + b ≡ suc (a + b) = omega arith in
+    drop_both a b xs ∙ sym (ap (λ n. drop n (x ∷ xs)) e)
 
 -- neighbouring records up to one between them, and from that one on
 cut_rows : (xs : List (List Cell)) (first past room : ℕ) → room ≤ past - first

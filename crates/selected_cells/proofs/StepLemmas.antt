@@ -1,8 +1,10 @@
 -- The walks over the masks of the columns of a part, which are in step.
-use Rattle.std.proofs.Common.{◌≡◌, ◌⊎◌, inl, inr, nat_lt, ℕ, zero, suc, ◌+◌, ◌<◌, ◌≤◌, Bool, true, false, List, [], ◌∷◌, ◌++◌, length, set, take, Option, Some, None, refl, sym, ap, subst, ◌∙◌, add-one, arith}
+use Rattle.std.proofs.Common.{◌≡◌, ◌⊎◌, inl, inr, nat_lt, ℕ, zero, suc, ◌+◌, ◌<◌, ◌≤◌, Bool, true, false, List, [], ◌∷◌, ◌++◌, length, get_or, set, take, Option, Some, None, refl, sym, ap, subst, ◌∙◌, add-one, arith}
 use Rattle.std.specs.Prelude.{slice_get}
 use Rattle.std.specs.List.{AllZip, sum_by}
-use Rattle.std.proofs.lemmas.List.Sums.{sum_by-append, sum_by-cons, sum_by-set}
+use Rattle.std.proofs.lemmas.List.Sums.{sum_by-append, sum_by-cons}
+use Rattle.std.proofs.lemmas.Option.{slice_get-get_or}
+use Rattle.stages.proofs.ListLemmas.{sum_by_taken}
 use Rattle.std.proofs.lemmas.Bool.{ltb-false, ltb-true}
 use Rattle.wah_iter.specs.Walks.{RunsLeft}
 use Rattle.query_engine.proofs.NameLemmas.{either}
@@ -120,3 +122,17 @@ zip_more Q (z ∷ xs) (w ∷ ys) (suc i) x y there h k = (h.0, zip_more Q xs ys 
 pub begun_more : (columns : List ItemColumn) (presents : List (Option RunsLeft)) (i : ℕ) (column : ItemColumn) (present : Option RunsLeft) → slice_get columns i ≡ Some column
     → AreInStep 0 (take i columns) presents → IsInStep 0 column present → AreInStep 0 (take (i + 1) columns) (presents ++ present ∷ [])
 begun_more columns presents i column present there h k = rw add-one (zip_more (IsInStep 0) columns presents i column present there h k)
+
+-- how many words they have
+pub words_more : (columns : List ItemColumn) (presents : List (Option RunsLeft)) (i : ℕ) (column : ItemColumn) (present : Option RunsLeft) → slice_get columns i ≡ Some column
+    → sum_by present_words presents ≡ sum_by mask_words (take i columns) → present_words present ≡ mask_words column
+    → sum_by present_words (presents ++ present ∷ []) ≡ sum_by mask_words (take (i + 1) columns)
+words_more columns presents i column present there h k =
+    let one : sum_by present_words (present ∷ []) ≡ present_words present = sum_by-cons present_words present [] ∙ omega arith in
+    let both = sum_by-append present_words presents (present ∷ []) in
+    let taken = sum_by_taken mask_words columns i column there in
+    omega (arith, one, both, taken, h, k)
+
+-- a column that is read from a list
+pub read_at : {X : Type 0} (xs : List X) (i : ℕ) (x : X) → i < length xs → x ≡ get_or xs i x → slice_get xs i ≡ Some x
+read_at xs i x below is = slice_get-get_or xs i x below ∙ ap (λ y. Some y) (sym is)

@@ -1,9 +1,10 @@
 -- What is read of a column's files are its cells, null where a row has no value.
-use Rattle.std.proofs.Common.{◌≡◌, ◌×◌, ℕ, zero, suc, ◌+◌, ◌-◌, ◌<◌, Bool, true, false, cond, List, [], ◌∷◌, length, get_or, map, take, drop, Option, Some, None, IsSome, MatchOption, unwrap_or, ℤ, pos, refl, sym, ap, subst, ◌∙◌, arith}
-use Rattle.std.proofs.lemmas.Option.{slice_get-get_or}
+use Rattle.std.proofs.Common.{◌≡◌, ℕ, zero, suc, ◌+◌, ◌-◌, ◌<◌, ◌≤◌, Bool, true, false, cond, List, [], ◌∷◌, length, get_or, map, take, drop, Option, Some, None, IsSome, MatchOption, unwrap_or, ℤ, pos, refl, sym, ap, subst, ◌∙◌, arith}
+use Rattle.std.proofs.lemmas.List.{drop-map, take-map}
 use Rattle.fb_outside.specs.Files.{Files}
 use Rattle.fb_types.specs.declared.cells.Cell.{Cell}
 use Rattle.fb_types.specs.declared.cells.Cell.TheVariants.{Null, Whole, Word}
+use Rattle.fb_types.specs.declared.schemas.Column.{Column}
 use Rattle.fb_types.specs.declared.types.ColType.{ColType}
 use Rattle.fb_types.specs.declared.types.ColType.TheVariants.{Byte, UByte, Short, UShort, Int, UInt, Long, ULong, Category, Text}
 use Rattle.fb_types.specs.Cells.{CellFits}
@@ -21,6 +22,8 @@ use Rattle.two_stage.proofs.FileLemmas.{has_column}
 use Rattle.two_stage.proofs.OpenLemmas.{mask_is}
 use Rattle.two_stage.proofs.PartFileLemmas.{has_numbers, has_texts, words_are}
 use Rattle.selected_cells.specs.Cells.{HasCells, HasValues, cells_between, present_cells, word_cell, word_or_null}
+use Rattle.selected_cells.specs.Items.{cell_at}
+use Rattle.selected_cells.specs.Runs.{records_between}
 use Rattle.selected_cells.specs.Opened.{IsColumnOf, IsValuesOf, mask_of}
 use Rattle.selected_cells.specs.declared.opened.SelectedColumn.{SelectedColumn}
 use Rattle.selected_cells.specs.declared.opened.SelectedColumn.TheVariants.{Numbers, Words, Texts}
@@ -48,16 +51,6 @@ take_present (suc n) bits [] = refl
 take_present (suc n) [] (cell ∷ cells) = ap (λ cs. Null ∷ cs) (take_present n [] cells)
 take_present (suc n) (bit ∷ bits) (cell ∷ cells) = ap (λ cs. cond bit cell Null ∷ cs) (take_present n bits cells)
 
-drop_map : {X Y : Type 0} (f : X → Y) (n : ℕ) (xs : List X) → drop n (map f xs) ≡ map f (drop n xs)
-drop_map f zero xs = refl
-drop_map f (suc n) [] = refl
-drop_map f (suc n) (x ∷ xs) = drop_map f n xs
-
-take_map : {X Y : Type 0} (f : X → Y) (n : ℕ) (xs : List X) → take n (map f xs) ≡ map f (take n xs)
-take_map f zero xs = refl
-take_map f (suc n) [] = refl
-take_map f (suc n) (x ∷ xs) = ap (λ ys. f x ∷ ys) (take_map f n xs)
-
 read_later : (read : Cell → Cell) (n : ℕ) (cells : List Cell) → IsReadAs read cells → IsReadAs read (drop n cells)
 read_later read zero cells h = h
 read_later read (suc n) [] h = h
@@ -73,9 +66,9 @@ read_between : {X : Type 0} (value : Cell → X) (cell : X → Cell) (cells : Li
 read_between value cell cells first n h =
     let some = drop first cells in
     let read : Cell → Cell = λ c. cell (value c) in
-    ap (λ bits. present_cells bits (map cell (take n (drop first (map value cells))))) (drop_map is_present first cells)
-    ∙ ap (λ xs. present_cells (map is_present some) (map cell (take n xs))) (drop_map value first cells)
-    ∙ ap (present_cells (map is_present some)) (sym (take_map cell n (map value some)) ∙ ap (take n) (map_both value cell some))
+    ap (λ bits. present_cells bits (map cell (take n (drop first (map value cells))))) (drop-map is_present first cells)
+    ∙ ap (λ xs. present_cells (map is_present some) (map cell (take n xs))) (drop-map value first cells)
+    ∙ ap (present_cells (map is_present some)) (sym (take-map cell n (map value some)) ∙ ap (take n) (map_both value cell some))
     ∙ take_present n (map is_present some) (map read some)
     ∙ ap (take n) (all_read read some (read_later read first cells h))
 
@@ -87,7 +80,7 @@ whole_read ty (Whole n) some fits there = refl
 whole_read ty (Word w) some fits there = absurd (by (ends_of ty) some fits)
   where
     by : (o : Option (ℤ × ℤ)) → IsSome o → MatchOption o ((1 ≤ length w) × (length w ≤ 65535)) (λ ends. ⊥) → ⊥
-    by None some fits = absurd some
+    by None some fits = absurd (cc)
     by (Some ends) some fits = fits
 
 numbers_of_whole : (ty : ColType) (cells : List Cell) → IsSome (ends_of ty) → stored_numbers ty cells ≡ map number_of cells
@@ -99,8 +92,8 @@ numbers_of_whole Int cells some = refl
 numbers_of_whole UInt cells some = refl
 numbers_of_whole Long cells some = refl
 numbers_of_whole ULong cells some = refl
-numbers_of_whole Category cells some = absurd some
-numbers_of_whole Text cells some = absurd some
+numbers_of_whole Category cells some = absurd (cc)
+numbers_of_whole Text cells some = absurd (cc)
 
 word_read : (ty : ColType) → ty ≡ Category → (cells : List Cell) (row : ℕ) (cell : Cell) → get_or cells row Null ≡ cell → CellFits cell ty → is_present cell ≡ true
     → word_cell (dictionary_of cells) (code_of (dictionary_of cells) cell) ≡ cell
@@ -158,7 +151,7 @@ ends_there UInt width other = refl
 ends_there Long width other = refl
 ends_there ULong width other = refl
 ends_there Category width other = absurd (other refl)
-ends_there Text width other = absurd width
+ends_there Text width other = absurd (cc)
 
 has_values : (files : Option Files) (dir : List ℕ) (meta : PartMeta) (part : Partition) (col : ℕ) (column : SelectedColumn) → IsPartAt files dir meta part
     → col < length meta.schema → IsValuesOf files (placed_at dir meta col) column → HasValues files column (column_at meta.schema part col)
@@ -180,3 +173,11 @@ has_cells files dir meta part col column at within h =
       fits = has.fits;
       mask = mask_is files (placed_at dir meta col) its has (mask_file (placed_at dir meta col)) (mask_of column) refl h.mask;
     }
+
+-- the cells of a column are those of the records
+pub cells_of_records : (schema : List Column) (part : Partition) (col first past : ℕ)
+    → cells_between (column_at schema part col) first past ≡ map (λ row. cell_at row (Some col)) (records_between part.records first past)
+unfolding column_at
+cells_of_records schema part col first past =
+    let cell : List Cell → Cell = λ row. cell_at row (Some col) in
+    ap (take (past - first)) (drop-map cell first part.records) ∙ take-map cell (past - first) (drop first part.records)

@@ -21,6 +21,7 @@ ghost use Rattle.selected_cells.specs.Runs.{records_between};
 ghost use Rattle.selected_cells.specs.Walks.{AreInStep, IsInStep};
 
 use crate::cells::{copies, hide_absent, nulls, put_column, stored_cells};
+use crate::listed::at;
 use crate::opened::{ItemColumn, SelectedColumn, placed};
 use crate::present::Present;
 use crate::spans::RowSpan;
@@ -139,7 +140,7 @@ fn item_cells<S: Store, L: Ledger>(
         → cells.items ≡ map (item_cell item) (records_between p.records span.first span.past)) }
     ensures whole { IfErr result (λ fault. (p : Partition) → IsPartAt (S.files store.old) part.now.dataset.now.dir part.now.meta.now p → NoDamage fault) }
 {
-    match &part.columns[place] {
+    match at(part.columns, place) {
         ItemColumn::Nothing => Ok(nulls(alloc, rows.len())?),
         ItemColumn::Same(earlier) => Ok(copies(alloc, *earlier, rows)?),
         ItemColumn::Own(col, column) => {

@@ -1,12 +1,13 @@
 //! The columns that a query selects, opened in each part.
 
-ghost use Rattle.std.specs.Prelude.{◌≡◌, ◌≢◌, ◌<◌, ◌∷◌, [], ℕ, List, Some, IfErr, IfOk, IsErrOf, MatchOption, length, slice_get};
+ghost use Rattle.std.specs.Prelude.{◌≡◌, ◌≢◌, ◌<◌, ◌∷◌, [], ℕ, List, Some, IfErr, IfOk, IsErrOf, IsSome, MatchOption, length, slice_get};
 ghost use Rattle.std.specs.List.{AllByRecursion};
 ghost use Rattle.fb_outside.specs.Causes.{HasCause};
 ghost use Rattle.fb_outside.specs.Files.{SameFiles};
 ghost use Rattle.fb_outside.specs.Names.{IsPath};
 ghost use Rattle.fb_outside.specs.Reads.{AddsOnly};
-ghost use Rattle.fb_types.specs.declared.types.ColType.TheVariants.{Category};
+ghost use Rattle.fb_types.specs.Types.{width_of};
+ghost use Rattle.fb_types.specs.declared.types.ColType.TheVariants.{Category, Text};
 ghost use Rattle.part_meta.specs.PartText.{IsPart};
 ghost use Rattle.dataset.specs.Opened.{IsDataset};
 ghost use Rattle.stages.specs.Faults.{IsRefused};
@@ -23,7 +24,7 @@ ghost use Rattle.selected_cells.specs.Items.{FitsItem, column_of};
 ghost use Rattle.selected_cells.specs.Opened.{AreOpenIn, IsColumnOf, IsItemColumn, IsOpenedOf, mask_of};
 ghost use Rattle.selected_cells.specs.Reads.{IsOpening, IsOpeningOf, IsPartOpening};
 
-use crate::listed::{keep, listed_part};
+use crate::listed::{at, keep, listed_part};
 use column_file::ColumnRef;
 use dataset::Dataset;
 use fb_outside::Store;
@@ -150,8 +151,9 @@ fn open_in<S: Store>(
     ensures whole { IfErr result (λ fault. (p : Partition) → IsPartAt (S.files store.old) dataset.now.dir part.now p → NoDamage fault) }
 {
     let mut columns = Items::new(alloc);
-    for (place, item) in items.iter().enumerate() {
-        let column = open_item(alloc, store, dataset, part, &items[..place], *item)?;
+    for place in 0..items.len() {
+        let item = *at(items, place);
+        let column = open_item(alloc, store, dataset, part, &items[..place], item)?;
         keep(&mut columns, column)?;
     }
     Ok(columns)
@@ -222,10 +224,30 @@ fn open_column<S: Store>(
     ensures whole { IfErr result (λ fault. (column : PartColumn) → HasColumn (S.files store.old) placed.now column → IsOutside fault) }
 {
     match placed.column.ty {
-        ColType::Text => Ok(SelectedColumn::Texts(placed.texts(alloc, store)?)),
+        ColType::Text => open_texts(alloc, store, placed),
         ColType::Category => open_words(alloc, store, placed),
-        _ => Ok(SelectedColumn::Numbers(placed.numbers(alloc, store)?)),
+        _ => open_numbers(alloc, store, placed),
     }
+}
+
+/// A column of whole numbers of a part.
+fn open_numbers<S: Store>(
+    alloc: Global,
+    store: &mut S,
+    placed: &PlacedColumn,
+) -> Result<SelectedColumn, EvalFault>
+    requires width { IsSome (width_of placed.now.column.ty) }
+    requires other { placed.now.column.ty ≢ Category }
+    ensures cause { HasCause (S.faults store.old) (S.faults store.new) (IsRefused result IsOfStore) }
+    ensures files { SameFiles (S.files store.old) (S.files store.new) }
+    ensures stop { IfErr result (StopsAt (S.files store.old) placed.now) }
+    ensures looks { AddsOnly (IsOpeningOf placed.now) (S.reads store.old) (S.reads store.new) }
+    ensures opened { IfOk result (IsColumnOf (S.files store.old) placed.now) }
+
+    // Where the files are those of a column.
+    ensures whole { IfErr result (λ fault. (column : PartColumn) → HasColumn (S.files store.old) placed.now column → IsOutside fault) }
+{
+    Ok(SelectedColumn::Numbers(placed.numbers(alloc, store)?))
 }
 
 /// A category of a part.
@@ -247,4 +269,23 @@ fn open_words<S: Store>(
     let codes = placed.numbers(alloc, store)?;
     let words = placed.words(alloc, store)?;
     Ok(SelectedColumn::Words(codes, words))
+}
+
+/// A column of texts of a part.
+fn open_texts<S: Store>(
+    alloc: Global,
+    store: &mut S,
+    placed: &PlacedColumn,
+) -> Result<SelectedColumn, EvalFault>
+    requires { placed.now.column.ty ≡ Text }
+    ensures cause { HasCause (S.faults store.old) (S.faults store.new) (IsRefused result IsOfStore) }
+    ensures files { SameFiles (S.files store.old) (S.files store.new) }
+    ensures stop { IfErr result (StopsAt (S.files store.old) placed.now) }
+    ensures looks { AddsOnly (IsOpeningOf placed.now) (S.reads store.old) (S.reads store.new) }
+    ensures opened { IfOk result (IsColumnOf (S.files store.old) placed.now) }
+
+    // Where the files are those of a column.
+    ensures whole { IfErr result (λ fault. (column : PartColumn) → HasColumn (S.files store.old) placed.now column → IsOutside fault) }
+{
+    Ok(SelectedColumn::Texts(placed.texts(alloc, store)?))
 }

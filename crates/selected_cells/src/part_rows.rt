@@ -20,7 +20,7 @@ ghost use Rattle.selected_cells.specs.Reads.{IsRunLook};
 ghost use Rattle.selected_cells.specs.Runs.{first_runs};
 ghost use Rattle.selected_cells.specs.Walks.{AreInStep, Fills, IsInStep, mask_words, runs_at};
 
-use crate::listed::listed_part;
+use crate::listed::{at, listed_part};
 use crate::open_part::{OpenPart, read_span};
 use crate::opened::{ItemColumn, SelectedPart};
 use crate::present::Present;
@@ -89,7 +89,7 @@ impl<'a> PartRows<'a> {
         ensures runs { IfOk result (λ walk. walk.runs ≡ runs_of chosen.now) }
         ensures words { IfOk result (λ walk. walk.words ≡ words_of chosen.now + sum_by mask_words (columns_at (slice_get opened.now place))) }
     {
-        let columns = opened[place].columns.as_slice();
+        let columns = at(opened, place).columns.as_slice();
         Ok(PartRows {
             alloc,
             opened,

@@ -1,10 +1,10 @@
 -- Blocks of rows, which are put together of the rows of parts.
-use Rattle.std.proofs.Common.{◌≡◌, ◌⊎◌, inl, inr, ℕ, zero, suc, ◌+◌, ◌-◌, ◌<◌, ◌≤◌, Bool, List, [], ◌∷◌, ◌++◌, length, map, take, drop, min, Option, Some, None, refl, sym, ap, subst, ◌∙◌, add-one, arith, append_assoc, append-nil, nat_le}
+use Rattle.std.proofs.Common.{◌≡◌, ◌⊎◌, inl, inr, ℕ, zero, suc, ◌+◌, ◌-◌, ◌<◌, ◌≤◌, Bool, List, [], ◌∷◌, ◌++◌, length, map, take, drop, min, Option, Some, None, IfSome, refl, sym, ap, subst, ◌∙◌, add-one, arith, append_assoc, append-nil, nat_le}
 use Rattle.std.specs.Prelude.{slice_get}
 use Rattle.std.specs.List.{flat_map, sum_by}
 use Rattle.std.proofs.lemmas.Bool.{leb-false, leb-true}
 use Rattle.std.proofs.lemmas.Grind.{flat_map-append}
-use Rattle.std.proofs.lemmas.List.{map-append}
+use Rattle.std.proofs.lemmas.List.{length-map, map-append}
 use Rattle.std.proofs.lemmas.List.Sums.{sum_by-append}
 use Rattle.fb_outside.specs.Files.{Files}
 use Rattle.fb_outside.specs.Reads.{AddsOnly, Look}
@@ -12,6 +12,7 @@ use Rattle.fb_outside.proofs.ReadLemmas.{AddsOnly-weaken}
 use Rattle.fb_types.specs.declared.cells.Cell.{Cell}
 use Rattle.candidates.specs.Reads.{AddsAll}
 use Rattle.candidates.proofs.ReadLemmas.{adds_more}
+use Rattle.part_meta.specs.declared.part.PartMeta.{PartMeta}
 use Rattle.world.specs.World.{Partition}
 use Rattle.query_engine.specs.Parts.{AreParts}
 use Rattle.query_engine.proofs.NameLemmas.{either}
@@ -207,3 +208,29 @@ pub words_of_next : (place : ℕ) (chosen : List (List Bool)) (opened : List Sel
 words_of_next place chosen opened rows part there at =
     ap (λ c. words_over c (drop place opened)) (dropped place chosen rows there)
     ∙ ap (λ o. words_over (rows ∷ drop (place + 1) chosen) o) (dropped place opened part at)
+
+-- as many rows as the part has
+pub rows_of_chosen : (chosen : List (List Bool)) (parts : List PartMeta) (place : ℕ) (rows : List Bool) → map length chosen ≡ map (λ (part : PartMeta). part.rows) parts
+    → slice_get chosen place ≡ Some rows → IfSome (slice_get parts place) (λ part. length rows ≡ part.rows)
+rows_of_chosen [] parts place rows same there = absurd (cc)
+rows_of_chosen (c ∷ chosen) [] place rows same there = tt
+rows_of_chosen (c ∷ chosen) (p ∷ parts) zero rows same there =
+    let is : c ≡ rows = cc in
+    let e : length c ≡ p.rows = cc in
+    ap length (sym is) ∙ e
+rows_of_chosen (c ∷ chosen) (p ∷ parts) (suc k) rows same there =
+    let rest : map length chosen ≡ map (λ (part : PartMeta). part.rows) parts = cc in rows_of_chosen chosen parts k rows rest there
+
+pub as_many_chosen : (chosen : List (List Bool)) (parts : List PartMeta) → map length chosen ≡ map (λ (part : PartMeta). part.rows) parts → length chosen ≡ length parts
+as_many_chosen chosen parts same = sym (length-map chosen length) ∙ ap length same ∙ length-map parts (λ (part : PartMeta). part.rows)
+
+-- behind the last part
+pub none_behind : (place : ℕ) (chosen : List (List Bool)) → length chosen ≤ place → runs_over place (drop place chosen) ≡ []
+unfolding runs_over
+none_behind place chosen past = ap (runs_over place) (all_dropped place chosen past)
+  where
+    all_dropped : (n : ℕ) (xs : List (List Bool)) → length xs ≤ n → drop n xs ≡ []
+    all_dropped zero [] h = refl
+    all_dropped (suc n) [] h = refl
+    all_dropped zero (x ∷ xs) h = absurd (omega (arith, h))
+    all_dropped (suc n) (x ∷ xs) h = all_dropped n xs (omega (arith, h))

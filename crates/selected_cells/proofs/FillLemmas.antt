@@ -16,7 +16,9 @@ use Rattle.stages.proofs.ListLemmas.{all_taken}
 use Rattle.world.specs.World.{Partition}
 use Rattle.dataset.specs.Opened.{IsDataset}
 use Rattle.part_meaning.specs.Meaning.{IsPartAt}
+use Rattle.query_engine.specs.Damage.{NoDamage}
 use Rattle.query_engine.specs.Parts.{AreParts}
+use Rattle.query_engine.specs.declared.fault.AskFault.{AskFault}
 use Rattle.query_engine.proofs.PartLemmas.{part_at}
 use Rattle.query_engine.proofs.NameLemmas.{either}
 use Rattle.selected_cells.specs.Items.{selected_cells}
@@ -130,3 +132,21 @@ span_looks files s room from to place room_left all old new span columns part be
       of_part = there;
       is = subst (λ (cs : List ItemColumn). IsColumnsLook cs span.first span.past look) are one;
     }) looks
+
+-- ---- over files that rest for the parts
+
+pub cells_over : (files mid : Option Files) (s : Selection) (place : ℕ) (meta : PartMeta) (first past : ℕ) (more : List (List Cell)) → mid ≡ files → IsDataset s.dataset
+    → slice_get s.dataset.parts place ≡ Some meta
+    → ((p : Partition) → IsPartAt mid s.dataset.dir meta p → more ≡ map (selected_cells s.items) (records_between p.records first past))
+    → (parts : List Partition) → AreParts files s.dataset parts
+    → (p : Partition) × (slice_get parts place ≡ Some p) × (more ≡ map (selected_cells s.items) (records_between p.records first past))
+cells_over files mid s place meta first past more same valid listed cells parts are =
+    let p = part_at files s.dataset parts valid are place meta listed in
+    (p.0, p.1, cells p.0 (subst (λ (f : Option Files). IsPartAt f s.dataset.dir meta p.0) (sym same) (are.each place meta p.0 listed p.1)))
+
+pub no_damage_over : (files mid : Option Files) (s : Selection) (place : ℕ) (meta : PartMeta) (answer : AskFault) → mid ≡ files → IsDataset s.dataset
+    → slice_get s.dataset.parts place ≡ Some meta → ((p : Partition) → IsPartAt mid s.dataset.dir meta p → NoDamage answer)
+    → (parts : List Partition) → AreParts files s.dataset parts → NoDamage answer
+no_damage_over files mid s place meta answer same valid listed none parts are =
+    let p = part_at files s.dataset parts valid are place meta listed in
+    none p.0 (subst (λ (f : Option Files). IsPartAt f s.dataset.dir meta p.0) (sym same) (are.each place meta p.0 listed p.1))

@@ -17,6 +17,7 @@ ghost use Rattle.selected_cells.specs.Reads.{IsRunLook, looks_over};
 ghost use Rattle.selected_cells.specs.Runs.{first_runs, later_runs, rows_of_runs, runs_over, selected_over};
 ghost use Rattle.selected_cells.specs.Walks.{Fills, IsWalkOf, Selection, runs_left, words_left, words_over};
 
+use crate::listed::at;
 use crate::opened::SelectedPart;
 use crate::part_rows::PartRows;
 use column_file::MAX_ROWS_READ;
@@ -178,7 +179,7 @@ impl<'a> RowBlocks<'a> {
             self.items,
             self.opened,
             place,
-            &self.chosen[place],
+            at(self.chosen, place),
         )?);
         self.next = place + 1;
         Ok(true)

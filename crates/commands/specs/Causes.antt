@@ -1,5 +1,5 @@
 -- Why a command ended with its status, and what it printed, over any files.
-use Rattle.std.specs.Prelude.{◌≡◌, ◌⊎◌, ⊥, ℕ, Bool, true, false, List, [], Option, Result, Ok, Err}
+use Rattle.std.specs.Prelude.{◌≡◌, ◌⊎◌, ℕ, Bool, true, false, List, [], Option, Result, Ok, Err}
 use Rattle.fb_outside.specs.Files.{Files}
 use Rattle.fb_outside.specs.Streams.{GrowsInPart}
 use Rattle.fb_types.specs.Table.{Table}

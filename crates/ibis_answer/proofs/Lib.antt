@@ -7,3 +7,5 @@ pub mod LookLemmas
 pub mod EncloseLemmas
 pub mod BoundsLemmas
 pub mod RunLemmas
+pub mod RecordLemmas
+pub mod ShownLemmas

@@ -1,5 +1,5 @@
 -- What a query comes to over files, whether or not they stand for a world, and what was written of it.
-use Rattle.std.specs.Prelude.{◌≡◌, ◌⊎◌, ⊤, ⊥, ℕ, Bool, List, Option, Some, IfOk, IfSome, Result, Ok, Err}
+use Rattle.std.specs.Prelude.{◌≡◌, ◌⊎◌, ⊤, ℕ, Bool, List, Option, Some, IfOk, IfSome, Result, Ok, Err}
 use Rattle.fb_outside.specs.Files.{Files}
 use Rattle.fb_outside.specs.Streams.{Grows, GrowsInPart}
 use Rattle.where_plan.specs.PlanOf.{plan_of}

@@ -1,5 +1,5 @@
 -- What a piece of an answer leaves of the output, and what is answered where it isn't printed.
-use Rattle.std.specs.Prelude.{◌≡◌, ⊥, ℕ, List, Option, Result, Ok, Err}
+use Rattle.std.specs.Prelude.{◌≡◌, ℕ, List, Option, Result, Ok, Err}
 use Rattle.fb_outside.specs.Streams.{Grows, GrowsInPart}
 use Rattle.query_engine.specs.declared.fault.AskFault.{AskFault}
 use Rattle.query_engine.specs.declared.fault.AskFault.TheVariants as ask

@@ -1,5 +1,5 @@
 -- The rows that an answer prints: what they are printed from, and how much of them was written.
-use Rattle.std.specs.Prelude.{◌≡◌, ⊤, ⊥, ℕ, ◌+◌, ◌*◌, ◌^◌, ◌<◌, ◌≤◌, Bool, false, List, [], ◌++◌, length, map, Option, Some, None, Result, Ok, Err, min, sum_by}
+use Rattle.std.specs.Prelude.{◌≡◌, ℕ, ◌+◌, ◌*◌, ◌<◌, ◌≤◌, Bool, false, List, [], ◌++◌, length, map, Option, Some, None, Result, Ok, Err, min, sum_by}
 use Rattle.std.specs.List.{AllByRecursion}
 use Rattle.fb_outside.specs.Files.{Files}
 use Rattle.fb_outside.specs.Streams.{Grows, GrowsInPart}
@@ -16,8 +16,8 @@ use Rattle.query_engine.specs.Parts.{AreParts, checked_over, rows_chosen}
 use Rattle.query_engine.specs.declared.choosing.Chosen.{Chosen}
 use Rattle.selected_cells.specs.Damages.{IsSelectedDamaged}
 use Rattle.selected_cells.specs.Items.{FitsItem}
-use Rattle.selected_cells.specs.Opened.{AreForParts, AreOpenIn}
-use Rattle.selected_cells.specs.Runs.{PartRun, first_runs, rows_of_runs, runs_over, selected_over}
+use Rattle.selected_cells.specs.Opened.{AreOpenIn}
+use Rattle.selected_cells.specs.Runs.{PartRun, rows_of_runs, runs_over, selected_over}
 use Rattle.selected_cells.specs.Walks.{words_over}
 use Rattle.selected_cells.specs.declared.selected.SelectedPart.{SelectedPart}
 use Rattle.select_group.specs.Answer.{answer_of}
@@ -71,8 +71,8 @@ IsByRecords p = (p.grouped ≡ false) × (p.order ≡ [])
 -- the items' columns are open in each part
 pub record AreOpen (files : Option Files) (dataset : Dataset) (items : List PickItem) (chosen : List (List Bool)) (opened : List SelectedPart) : Type 0 where
   pub fits : AllByRecursion (FitsItem dataset.schema) items
+  pub lengths : map length chosen ≡ map (λ (part : PartMeta). part.rows) dataset.parts
   pub open_in : AreOpenIn files dataset items opened
-  pub for_parts : AreForParts dataset items chosen opened
 
 -- no rows without a select list; the rows of the answer; or, where these are the records' own, the open columns
 abbrev pub AreRowsFor : Option Files → Dataset → Option Pick → Chosen → AnswerRows → Type 0
@@ -114,9 +114,10 @@ pub record TellsItem (files : Option Files) (dataset : Dataset) (items : List Pi
 
 -- The rows of the first of these records were written, or a front of them.
 pub record WritesFirst (files : Option Files) (dataset : Dataset) (items : List PickItem) (runs : List PartRun) (old new : Option (List ℕ)) : Type 0 where
-  pub count : ℕ
   pub cells : List (List Cell)
-  pub are : AreCellsOf files dataset items (first_runs count runs) cells
+  pub each : AllByRecursion (HasCells items) cells
+  pub few : length cells ≤ rows_of_runs runs
+  pub true_to : (parts : List Partition) → AreParts files dataset parts → (rest : List (List Cell)) × (cells ++ rest ≡ selected_over items parts runs)
   pub front : GrowsInPart old new (rows_text cells)
 
 -- The rows of all of these records, each its own cells. Of the first of them, or a front of these, where a file is damaged, the outside

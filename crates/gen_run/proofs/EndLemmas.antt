@@ -1,8 +1,8 @@
 -- How one command ends, and how all do.
-use Rattle.std.proofs.Common.{◌≡◌, ◌≢◌, ◌⊎◌, inl, inr, ℕ, Bool, true, false, List, [], ◌∷◌, ◌++◌, length, take, Option, Some, Result, Ok, Err, refl, sym, ap, subst, ◌∙◌, append-nil, arith}
+use Rattle.std.proofs.Common.{◌≡◌, ◌≢◌, ℕ, Bool, false, List, [], ◌∷◌, ◌++◌, take, Option, Some, Result, Ok, Err, refl, sym, ap, subst, ◌∙◌, append-nil, arith}
 use Rattle.std.proofs.Math.Seq.{take-length}
 use Rattle.std.specs.Result.{IsErr}
-use Rattle.fb_outside.specs.Causes.{HasCause, Rose}
+use Rattle.fb_outside.specs.Causes.{HasCause}
 use Rattle.fb_outside.specs.Files.{Files}
 use Rattle.fb_outside.specs.Streams.{ForSomeInput, Grows, GrowsInPart}
 use Rattle.fb_outside.specs.declared.outside.Trouble.{Trouble}
@@ -18,10 +18,9 @@ use Rattle.commands.specs.Command.{Command, command_outcome}
 use Rattle.commands.specs.Effects.{LeavesAfter}
 use Rattle.commands.specs.Reply.{Replies, RepliesBy, is_fault}
 use Rattle.ardea.specs.Load.{loaded_line}
-use Rattle.generator.specs.Generated.{generated}
 use Rattle.generator.proofs.GeneratedLemmas.{generated-length}
-use Rattle.gen_run.specs.Made.{effects_of, gen_outcome, made_commands, made_world, texts_of}
-use Rattle.gen_run.specs.Ran.{IsGenEnd, PrintsBy, Ran, RanIn, StandsBy, ending_of, status_of}
+use Rattle.gen_run.specs.Made.{gen_outcome, made_commands, made_world, texts_of}
+use Rattle.gen_run.specs.Ran.{IsGenEnd, PrintsBy, Ran, StandsBy, ending_of, status_of}
 use Rattle.gen_run.proofs.RanLemmas.{prints_then}
 
 -- ---- one command

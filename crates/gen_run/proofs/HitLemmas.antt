@@ -1,7 +1,7 @@
 -- Indexes don't change how many records a query asks for.
-use Rattle.std.proofs.Common.{◌≡◌, ◌≢◌, ◌⊎◌, inl, inr, ℕ, zero, suc, Bool, true, List, [], ◌∷◌, ◌++◌, length, map, take, Option, Some, None, Result, Ok, Err, refl, sym, ap, subst, ◌∙◌, arith}
+use Rattle.std.proofs.Common.{◌≡◌, ◌≢◌, ◌⊎◌, inl, inr, ℕ, zero, suc, List, [], ◌∷◌, ◌++◌, length, take, Option, Some, None, Result, Ok, Err, refl, sym, ap, subst, ◌∙◌, arith}
 use Rattle.std.specs.Bool.{⊤}
-use Rattle.std.specs.FinMap.{empty, get, get-empty, insert}
+use Rattle.std.specs.FinMap.{get-empty}
 use Rattle.std.specs.List.{AllByRecursion, filter, flat_map}
 use Rattle.std.specs.Ordering.{nat_cmp}
 use Rattle.std.specs.Cmp.Lexicographic.{slice_cmp}
@@ -10,14 +10,13 @@ use Rattle.index_spec.specs.declared.spec.Spec.{Spec}
 use Rattle.where_grammar.specs.declared.clause.Clause.{Clause}
 use Rattle.where_plan.specs.PlanHolds.{is_asked_for}
 use Rattle.generator.specs.Generated.{generated, generated_columns}
-use Rattle.world.specs.World.{Content, World, content_at, no_datasets, records_of, with_content}
+use Rattle.world.specs.World.{Content, World, content_at, records_of, with_content}
 use Rattle.world.specs.Effects.{Builds, Effect, Loads, after, after_build, after_one, built, empty_content, extended, found_or_empty}
 use Rattle.world.proofs.ContentLemmas.{records-extended}
 use Rattle.world.proofs.IndexLemmas.{records-built}
 use Rattle.world.proofs.MapLemmas.{get-insert_other, get-insert_same, same_or_apart}
-use Rattle.dataset.specs.Found.{Found, There, dataset_in, found_by, found_in}
+use Rattle.dataset.specs.Found.{There, dataset_in, found_by, found_in}
 use Rattle.statuses.specs.declared.Status.{Status}
-use Rattle.statuses.specs.Outcome.{Outcome}
 use Rattle.ibis_answer.specs.Answer.{answer_text, asked_in, asked_of, between_in, between_line, counted_in, numbers_of, told}
 use Rattle.ibis_build.specs.Builds.{Asked, Task, ended_by, outcome_by, outcome_of_tasks, tasks_at}
 use Rattle.ibis_build.specs.Builds as build

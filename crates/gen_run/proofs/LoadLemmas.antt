@@ -1,5 +1,5 @@
 -- The load of the records of a seed.
-use Rattle.std.proofs.Common.{◌≡◌, ◌≢◌, ◌≤◌, ◌<◌, ◌+◌, ◌*◌, ◌⊎◌, inl, inr, ℕ, Bool, true, false, List, [], length, nat_lt, Option, Some, None, refl, sym, ap, subst, ◌∙◌, arith}
+use Rattle.std.proofs.Common.{◌≡◌, ◌≢◌, ◌≤◌, ◌<◌, ◌*◌, ℕ, Bool, true, false, List, [], length, nat_lt, Option, Some, None, refl, sym, subst, arith}
 use Rattle.std.proofs.lemmas.Bool.Decides.{nat_tests}
 use Rattle.std.specs.FinMap.{empty, get-empty}
 use Rattle.std.specs.List.{All}
@@ -16,8 +16,8 @@ use Rattle.fb_types.specs.declared.schemas.Column.{Column}
 use Rattle.generator.specs.Generated.{generated, generated_columns}
 use Rattle.generator.proofs.GeneratedLemmas.{generated-length}
 use Rattle.part_meta.specs.declared.catalog.Catalog.{Catalog}
-use Rattle.world.specs.World.{World, content_at, no_datasets}
-use Rattle.world.specs.Stands.{Stands, StandsFor}
+use Rattle.world.specs.World.{no_datasets}
+use Rattle.world.specs.Stands.{Stands}
 use Rattle.world.specs.Effects.{part_count}
 use Rattle.world.proofs.PieceLemmas.{part-begins}
 use Rattle.dataset.specs.Appended.{Refusal, Refuses, append_files, refusal}
@@ -25,7 +25,7 @@ use Rattle.dataset.specs.Opened.{catalog_in}
 use Rattle.dataset.specs.declared.content.Dataset.{Dataset}
 use Rattle.dataset.specs.declared.fault.AppendFault.{AppendFault}
 use Rattle.dataset.specs.declared.fault.AppendFault.TheVariants as fault
-use Rattle.dataset.specs.Loads.{IsLoad, catalog_before, load_files}
+use Rattle.dataset.specs.Loads.{IsLoad, catalog_before}
 use Rattle.dataset.proofs.LoadLemmas.{StandsFor-loaded, catalog_before-absent, refusal-none}
 use Rattle.gen_run.specs.Made.{made_world, rows_of_part, table_path}
 

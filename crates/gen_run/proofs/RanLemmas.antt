@@ -1,16 +1,15 @@
 -- What commands print and do one after another.
-use Rattle.std.proofs.Common.{◌≡◌, ℕ, List, [], ◌∷◌, ◌++◌, length, take, Option, Result, Ok, Err, refl, sym, ap, subst, ◌∙◌, append_assoc, append-nil}
+use Rattle.std.proofs.Common.{◌≡◌, ℕ, List, [], ◌∷◌, ◌++◌, Option, Result, Ok, Err, refl, sym, ap, subst, ◌∙◌, append_assoc, append-nil}
 use Rattle.std.specs.Result.{IsErr}
 use Rattle.fb_outside.specs.Files.{Files}
 use Rattle.fb_outside.specs.Streams.{Grows, GrowsInPart}
 use Rattle.fb_outside.specs.declared.outside.Trouble.{Trouble}
 use Rattle.fb_outside.proofs.StreamLemmas.{Grows-append, GrowsInPart-append, GrowsInPart-front, GrowsInPart-none}
 use Rattle.world.specs.World.{World}
-use Rattle.world.specs.Stands.{Stands}
 use Rattle.world.specs.Effects.{Effect, after, after_one}
 use Rattle.commands.specs.Command.{Command, command_outcome}
 use Rattle.gen_run.specs.Made.{effects_of, texts_of}
-use Rattle.gen_run.specs.Ran.{PrintsBy, Ran, RanIn, StandsBy}
+use Rattle.gen_run.specs.Ran.{PrintsBy, Ran, StandsBy}
 
 -- ---- of two lists of commands
 

@@ -1,5 +1,5 @@
 -- How many records of the table a query asks for, before and after commands of `gen`.
-use Rattle.std.specs.Prelude.{ℕ, List, take, Option, Some, Result, Ok, Err}
+use Rattle.std.specs.Prelude.{ℕ, List, take, Result, Ok, Err}
 use Rattle.statuses.specs.declared.Status.{Status}
 use Rattle.world.specs.Effects.{after}
 use Rattle.world.specs.World.{World}

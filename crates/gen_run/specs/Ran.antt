@@ -1,5 +1,5 @@
 -- How the commands of `gen` ran.
-use Rattle.std.specs.Prelude.{◌≡◌, ⊤, ℕ, List, Option, Result, Ok, Err}
+use Rattle.std.specs.Prelude.{⊤, ℕ, List, Option, Result, Ok, Err}
 use Rattle.fb_outside.specs.Files.{Files}
 use Rattle.fb_outside.specs.Streams.{Grows, GrowsInPart}
 use Rattle.fb_outside.specs.declared.outside.Trouble.{Trouble}
@@ -10,7 +10,7 @@ use Rattle.world.specs.Effects.{after}
 use Rattle.statuses.specs.declared.Status.{Status}
 use Rattle.statuses.specs.declared.Status.TheVariants.{Done, SinkFault, OutOfMemory}
 use Rattle.commands.specs.Command.{Command}
-use Rattle.gen_run.specs.Made.{effects_of, gen_outcome, texts_of}
+use Rattle.gen_run.specs.Made.{effects_of, texts_of}
 
 -- a text was printed, or a front of it where the call stopped
 abbrev pub PrintsBy : {A : Type 0} → List ℕ → Option (List ℕ) → Option (List ℕ) → Result A Trouble → Type 0

@@ -1,4 +1,4 @@
-use Rattle.gen_run.specs.Made.{made_commands, made_world}
+use Rattle.gen_run.specs.Made.{made_world}
 use Rattle.gen_run.proofs.EndLemmas.{gen_prints, gen_stops}
 use Rattle.gen_run.proofs.make_and_ask.Goals as goal
 

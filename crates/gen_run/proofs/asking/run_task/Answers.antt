@@ -1,4 +1,3 @@
-use Rattle.std.proofs.Common.{sym}
 use Rattle.commands.specs.Command.{command_of_task}
 use Rattle.gen_run.proofs.EndLemmas.{ending_cause, never, ran_one}
 use Rattle.gen_run.proofs.asking.run_task.Goals as goal

@@ -9,3 +9,5 @@ pub mod BoundsLemmas
 pub mod RunLemmas
 pub mod RecordLemmas
 pub mod ShownLemmas
+pub mod WalkLemmas
+pub mod ReadyLemmas

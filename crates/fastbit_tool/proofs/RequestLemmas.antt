@@ -30,19 +30,16 @@ command_asked (Some (Ibis dir task)) is none = refl
 command_asked (Some Session) is none = absurd (cc)
 command_asked (Some (Gen rows seed)) is none = absurd (cc)
 
-table_is : (asked : Asked) (rows seed n m : ℕ) → asked ≡ OfTable n m → Some (n, m) ≡ Some (rows, seed) → asked ≡ OfTable rows seed
-table_is asked rows seed n m is same = is ∙ ap (λ (o : Option (ℕ × ℕ)). by o) same
-  where
-    by : Option (ℕ × ℕ) → Asked
-    by None = OfSession
-    by (Some pair) = OfTable pair.0 pair.1
+abbrev asked_by_table : Option (ℕ × ℕ) → Asked
+asked_by_table None = OfSession
+asked_by_table (Some table) = OfTable table.0 table.1
 
-pub table_asked : (asked : Option Job) (rows seed : ℕ) → table_of asked ≡ Some (rows, seed) → asked_of asked ≡ OfTable rows seed
-table_asked None rows seed is = absurd (cc)
-table_asked (Some (Ardea load)) rows seed is = absurd (cc)
-table_asked (Some (Ibis dir task)) rows seed is = absurd (cc)
-table_asked (Some Session) rows seed is = absurd (cc)
-table_asked (Some (Gen n m)) rows seed is = table_is (OfTable n m) rows seed n m refl is
+pub table_asked : (asked : Option Job) (table : ℕ × ℕ) → table_of asked ≡ Some table → asked_of asked ≡ OfTable table.0 table.1
+table_asked None table is = absurd (cc)
+table_asked (Some (Ardea load)) table is = absurd (cc)
+table_asked (Some (Ibis dir task)) table is = absurd (cc)
+table_asked (Some Session) table is = absurd (cc)
+table_asked (Some (Gen rows seed)) table is = ap asked_by_table is
 
 -- ---- memory ran out before anything was done
 

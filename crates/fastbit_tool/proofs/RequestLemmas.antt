@@ -1,5 +1,5 @@
 -- What is asked for, and a call that ended before it asked for anything.
-use Rattle.std.proofs.Common.{◌≡◌, inl, inr, ℕ, Bool, true, false, List, [], Option, Some, None, refl, ap, ◌∙◌}
+use Rattle.std.proofs.Common.{◌≡◌, inl, inr, ℕ, true, false, List, [], Option, Some, None, refl, ap}
 use Rattle.fb_outside.specs.Files.{ChangesAmong, Files}
 use Rattle.fb_outside.specs.Reads.{Look}
 use Rattle.fb_outside.specs.Streams.{ForSomeInput}

@@ -1,5 +1,4 @@
 use Rattle.std.proofs.Common.{◌≡◌, refl, sym, ap, ◌∙◌}
-use Rattle.fb_outside.proofs.FileLemmas.{ChangesAmong-same}
 use Rattle.command_words.specs.Words.{asked_by}
 use Rattle.statuses.specs.declared.Status.TheVariants.{OutOfMemory}
 use Rattle.commands.specs.Command.{command_of, command_outcome}

@@ -12,7 +12,13 @@ use std::sync::ledger::Ledger;
 use std::test::Fail;
 use steps::{Blank, Count, Steps};
 
-fn made<L: Ledger>(alloc: Global, blank: Blank, rows: u32, seed: u64, out: &mut MemSink) -> Status
+fn made_by<L: Ledger>(
+    alloc: Global,
+    blank: Blank,
+    rows: u32,
+    seed: u64,
+    out: &mut MemSink,
+) -> Status
     requires some { 1 ≤ rows }
     requires few { rows ≤ 1000000 }
     requires ledger { blank.name ≡ L.name }
@@ -23,12 +29,21 @@ fn made<L: Ledger>(alloc: Global, blank: Blank, rows: u32, seed: u64, out: &mut 
     run_gen(alloc, rows, seed, out, &mut steps)
 }
 
+/// Makes a table, with a count of steps of its own.
+fn made(alloc: Global, blank: Blank, rows: u32, seed: u64, out: &mut MemSink) -> Status
+    requires some { 1 ≤ rows }
+    requires few { rows ≤ 1000000 }
+    requires some_parts { 0 < blank.parts }
+{
+    made_by::<Brand>(alloc, blank, rows, seed, out)
+}
+
 /// The one record of seed 0 has 807, the word `w5` and a null.
 #[test]
 fn a_table_of_one_record_is_asked_by_four_specifications(rt: HostRuntime) -> Result<(), Fail> {
     let alloc = rt.alloc();
     let mut out = MemSink::make(alloc, &[])?;
-    let status = made::<Brand>(alloc, rt.blank(), 1, 0, &mut out);
+    let status = made(alloc, rt.blank(), 1, 0, &mut out);
     assert_eq!(rt; status.code(), 0);
     let mut text = Vec::from_slice(alloc, b"loaded 1 rows\n")?;
     for _ in 0..4u8 {
@@ -102,14 +117,8 @@ fn four_kinds_of_indexes_give_the_same_hits(rt: HostRuntime) -> Result<(), Fail>
     let alloc = rt.alloc();
     let mut out = MemSink::make(alloc, &[])?;
     let mut again = MemSink::make(alloc, &[])?;
-    assert_eq!(rt;
-        made::<Brand>(alloc, rt.blank(), 2000, 7, &mut out).code(),
-        0
-    );
-    assert_eq!(rt;
-        made::<Brand>(alloc, rt.blank(), 2000, 7, &mut again).code(),
-        0
-    );
+    assert_eq!(rt; made(alloc, rt.blank(), 2000, 7, &mut out).code(), 0);
+    assert_eq!(rt; made(alloc, rt.blank(), 2000, 7, &mut again).code(), 0);
     assert!(rt; out.written() == again.written());
     let counts = counted(&generate(alloc, 2000, 7)?);
     let numbers = numbers_in(alloc, out.written())?;
@@ -132,7 +141,7 @@ fn four_kinds_of_indexes_give_the_same_hits(rt: HostRuntime) -> Result<(), Fail>
 fn a_failed_print_ends_the_table(rt: HostRuntime) -> Result<(), Fail> {
     let alloc = rt.alloc();
     let mut out = MemSink::make(alloc, &[2])?;
-    let status = made::<Brand>(alloc, rt.blank(), 1, 0, &mut out);
+    let status = made(alloc, rt.blank(), 1, 0, &mut out);
     assert_eq!(rt; status.code(), 12);
     assert!(rt; out.written() == b"loaded 1 rows\nbuilt 2 indexes\n".as_slice());
     Ok(())

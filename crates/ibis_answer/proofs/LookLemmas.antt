@@ -1,5 +1,5 @@
 -- The reads of a question and of an estimate: over every store, and where the files stand for a world.
-use Rattle.std.proofs.Common.{◌≡◌, ◌⊎◌, ◌<◌, ◌≤◌, ◌||◌, inl, inr, ℕ, suc, Bool, true, false, cond, IsTrue, List, [], ◌∷◌, ◌++◌, map, Option, Some, None, IfSome, Result, Ok, Err, option_map, refl, sym, ap, subst, ◌∙◌, arith}
+use Rattle.std.proofs.Common.{◌≡◌, ◌⊎◌, ◌<◌, ◌≤◌, ◌||◌, inl, inr, ℕ, suc, Bool, true, false, cond, IsTrue, List, [], ◌∷◌, ◌++◌, map, Option, Some, None, IfSome, Result, Ok, Err, option_map, refl, sym, ap, subst, ◌∙◌, arith, slice_index_or}
 use Rattle.std.specs.Prelude.{IsOkAnd}
 use Rattle.std.specs.List.{AllByRecursion, filter, list_any, slice_get}
 use Rattle.std.specs.Str.{bytes_eq}
@@ -157,7 +157,7 @@ none_pass : {X : Type 0} (test : X → Bool) (xs : List X) → ((place : ℕ) (x
 none_pass test [] none = refl
 none_pass test (x ∷ xs) none = ap (λ b. b || list_any test xs) (none 0 x refl) ∙ none_pass test xs (λ place y there. none (suc place) y there)
 
-none_filtered : (test : Look → Bool) (P : Look → Type 0) (xs : List Look) → AllByRecursion P xs → ((look : Look) → P look → test look ≡ false) → filter test xs ≡ []
+pub none_filtered : (test : Look → Bool) (P : Look → Type 0) (xs : List Look) → AllByRecursion P xs → ((look : Look) → P look → test look ≡ false) → filter test xs ≡ []
 none_filtered test P [] all none = refl
 none_filtered test P (x ∷ xs) all none =
     ap (λ b. cond b (x ∷ filter test xs) (filter test xs)) (none x all.0) ∙ none_filtered test P xs all.1 none
@@ -286,17 +286,22 @@ module _ (allowed : Asking → List Partition → Look → Bool) (dir query : Li
 
   -- one whose plan is asked
   pub asked_reads : (files after : Option Files) (selection : Selection) (old mid new : Option (List Look)) (done more : Type 0) → (more → done) → IsPath dir
-      → (is : IsSelection dir query files selection) → after ≡ files → IfSome files (λ m. AddsOnly (IsListedLook m dir) old mid)
+      → (is : IsSelection dir query files selection) → (by_plan : Plan → List Partition → Look → Bool)
+      → ((parts : List Partition) → by_plan (plan_of selection.dataset.schema is.asked.clause) parts ≡ allowed (asking is.asked selection.dataset) parts)
+      → after ≡ files → IfSome files (λ m. AddsOnly (IsListedLook m dir) old mid)
       → ((parts : List Partition) → AreParts after selection.dataset parts
-      → AddsLooks mid new (allowed (asking is.asked selection.dataset) parts) (is_bitmap_over selection.dataset parts) (bitmaps_over selection.dataset parts selection.plan) done)
+      → AddsLooks mid new (by_plan selection.plan parts) (is_bitmap_over selection.dataset parts) (bitmaps_over selection.dataset parts selection.plan) done)
       → LooksInWorld allowed dir query files old new more
-  asked_reads None after selection old mid new done more is_done path is kept listed reads world stands = absurd stands
-  asked_reads (Some m) after selection old mid new done more is_done path is kept listed reads world stands =
+  asked_reads None after selection old mid new done more is_done path is by_plan same kept listed reads world stands = absurd stands
+  asked_reads (Some m) after selection old mid new done more is_done path is by_plan same kept listed reads world stands =
       let there = asked_in_world m world dir stands path query selection is in
       let content = there.content in
       let dataset = dataset_in dir content in
       let planned = is_plan_of content.schema is.asked.clause selection.plan there.planned in
-      let looks = reads content.parts (subst (λ (f : Option Files). AreParts f selection.dataset content.parts) (sym kept) there.parts) in
+      let own_plan = is_plan_of selection.dataset.schema is.asked.clause selection.plan is.planned in
+      let found = reads content.parts (subst (λ (f : Option Files). AreParts f selection.dataset content.parts) (sym kept) there.parts) in
+      let looks = subst (λ (may : Look → Bool). AddsLooks mid new may (is_bitmap_over selection.dataset content.parts) (bitmaps_over selection.dataset content.parts selection.plan) done)
+      (ap (λ (p : Plan). by_plan p content.parts) own_plan ∙ same content.parts) found in
       let of_dataset = subst (λ (d : Dataset). AddsLooks mid new (allowed (asking is.asked d) content.parts) (is_bitmap_over d content.parts) (bitmaps_over d content.parts selection.plan) done) there.same looks in
       let of_plan = subst (λ (p : Plan). AddsLooks mid new (allowed (asking is.asked dataset) content.parts) (is_bitmap_over dataset content.parts) (bitmaps_over dataset content.parts p) done) planned of_dataset in
       subst (λ (r : Result Asking Status). AddsGivenLooks allowed dir r (content_at world dir) old new more) (sym there.asked)

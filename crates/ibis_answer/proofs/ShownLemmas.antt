@@ -181,6 +181,7 @@ module _ (files : Option Files) (dataset : Dataset) (plan : Plan) (chosen : Chos
           ∙ first_wanted p.limit chosen.hits first_ones other_ones e all_long)
 
       first_long : length first_ones ≡ wanted p.limit chosen.hits
+      unfolding first_ones other_ones
       first_long =
           let few = first_few in
           let others = other_few in
@@ -191,11 +192,9 @@ module _ (files : Option Files) (dataset : Dataset) (plan : Plan) (chosen : Chos
           omega (arith, few, others, rows, all, left, hits)
         where
           first_few : length first_ones ≤ rows_of_runs runs_wanted
-          unfolding first_ones
           first_few = short_selected parts p.items runs_wanted
 
           other_few : length other_ones ≤ rows_of_runs (later_runs (wanted p.limit chosen.hits) (chosen_runs chosen))
-          unfolding other_ones
           other_few = short_selected parts p.items (later_runs (wanted p.limit chosen.hits) (chosen_runs chosen))
 
     more_blanks : (cells : List (List Cell)) → List (List Cell)
@@ -213,7 +212,7 @@ module _ (files : Option Files) (dataset : Dataset) (plan : Plan) (chosen : Chos
     -- all that are wanted were written
     pub records_shown : (cells : List (List Cell)) → AreCellsOf files dataset p.items (first_runs (wanted p.limit chosen.hits) (chosen_runs chosen)) cells
         → AreShown files dataset (Some p) chosen cells
-    unfolding runs_wanted
+    unfolding runs_wanted first_ones
     records_shown cells of =
         let long : length cells ≡ wanted p.limit chosen.hits = of.number ∙ rows_wanted in
         let pad = padded cells of.each (omega (arith, long)) in
@@ -228,13 +227,12 @@ module _ (files : Option Files) (dataset : Dataset) (plan : Plan) (chosen : Chos
       where
         own_world : (parts : List Partition) (rest : AreParts files dataset parts)
             → selected_over p.items parts (first_runs (wanted p.limit chosen.hits) (chosen_runs chosen)) ≡ answer_of p (selected_over p.items parts (chosen_runs chosen))
-        unfolding first_ones runs_wanted
         own_world parts rest = own_first parts rest (first_long parts rest)
 
     -- the first of them were
     pub first_shown : (old new : Option (List ℕ)) → WritesFirst files dataset p.items (first_runs (wanted p.limit chosen.hits) (chosen_runs chosen)) old new
         → WritesShownFirst files dataset (Some p) chosen old new
-    unfolding runs_wanted
+    unfolding runs_wanted first_ones
     first_shown old new w =
         let few : length w.cells ≤ wanted p.limit chosen.hits = omega (arith, w.few, rows_wanted) in
         let pad = padded w.cells w.each few in
@@ -254,7 +252,6 @@ module _ (files : Option Files) (dataset : Dataset) (plan : Plan) (chosen : Chos
       where
         own_world : (parts : List Partition) (rest : AreParts files dataset parts)
             → selected_over p.items parts (first_runs (wanted p.limit chosen.hits) (chosen_runs chosen)) ≡ answer_of p (selected_over p.items parts (chosen_runs chosen))
-        unfolding first_ones runs_wanted
         own_world parts rest = own_first parts rest (first_long parts rest)
 
     pub columns_shown : {A : Type 0} (old new : Option (List ℕ)) (result : Result A Unprinted)

@@ -1,5 +1,5 @@
 -- A walk over the chosen rows by blocks: what was read so far, and what is left.
-use Rattle.std.proofs.Common.{◌≡◌, ◌+◌, ◌-◌, ◌<◌, ◌≤◌, ◌×◌, ℕ, suc, Bool, List, [], ◌∷◌, ◌++◌, length, Option, Some, None, refl, sym, ap, subst, ◌∙◌, arith, append_assoc}
+use Rattle.std.proofs.Common.{◌≡◌, ◌≢◌, ◌+◌, ◌-◌, ◌<◌, ◌≤◌, ℕ, suc, Bool, List, [], ◌∷◌, ◌++◌, length, Option, Some, None, Result, Ok, Err, refl, sym, ap, subst, ◌∙◌, arith, append_assoc}
 use Rattle.std.specs.Prelude.{min, slice_get, slice_index_or, take}
 use Rattle.std.specs.List.{AllByRecursion}
 use Rattle.std.proofs.Math.Nat.{min-le_right}
@@ -8,26 +8,33 @@ use Rattle.fb_outside.specs.Files.{Files}
 use Rattle.fb_outside.specs.Streams.{Grows, GrowsInPart}
 use Rattle.fb_outside.specs.Reads.{AddsOnly, Look}
 use Rattle.fb_outside.proofs.ReadLemmas.{AddsOnly-trans, AddsOnly-weaken}
-use Rattle.fb_outside.proofs.StreamLemmas.{Grows-append, GrowsInPart-append}
+use Rattle.fb_outside.proofs.StreamLemmas.{Grows-append, Grows-nil, GrowsInPart-append, GrowsInPart-none, GrowsInPart-whole}
 use Rattle.fb_types.specs.declared.cells.Cell.{Cell}
 use Rattle.part_meta.specs.FileNames.{file_name}
-use Rattle.part_meta.specs.declared.names.FileKind.TheVariants.{Values}
+use Rattle.part_meta.specs.declared.names.FileKind.{FileKind}
+use Rattle.part_meta.specs.declared.names.FileKind.TheVariants as file
+use Rattle.part_meta.specs.declared.names.FileKind.TheVariants.{Index, Values}
 use Rattle.part_meta.specs.declared.part.PartMeta.{PartMeta}
 use Rattle.part_meaning.specs.Columns.{no_column}
 use Rattle.where_plan.specs.declared.plan.Plan.{Plan}
 use Rattle.query_grammar.specs.declared.picking.PickItem.{PickItem}
+use Rattle.dataset.specs.Damage.{Damage}
 use Rattle.dataset.specs.Opened.{IsDataset}
 use Rattle.dataset.specs.declared.content.Dataset.{Dataset}
+use Rattle.query_engine.specs.Damage.{IfDamaged, NoDamage}
 use Rattle.query_engine.specs.Parts.{AreParts, rows_chosen}
+use Rattle.query_engine.specs.declared.fault.AskFault.{AskFault}
+use Rattle.query_engine.specs.declared.fault.AskFault.TheVariants as ask
 use Rattle.query_engine.proofs.PartLemmas.{item_at, place_in_list}
 use Rattle.two_stage.specs.Placed.{placed_at}
 use Rattle.select_group.specs.Gathered.{CanBeAdded}
 use Rattle.select_group.specs.Printed.{rows_text}
+use Rattle.selected_cells.specs.Damages.{IsSelectedDamaged}
 use Rattle.selected_cells.specs.Items.{FitsItem, column_of}
 use Rattle.selected_cells.specs.Opened.{AreOpenIn, IsColumnOf, IsItemColumn}
-use Rattle.selected_cells.specs.Reads.{IsOpening, IsRunLook, look_of}
+use Rattle.selected_cells.specs.Reads.{IsOpening, IsOpeningKind, IsRunLook, look_of}
 use Rattle.selected_cells.specs.Runs.{AreChosen, PartRun, first_runs, later_runs, rows_of_runs, runs_over, selected_over}
-use Rattle.selected_cells.specs.Walks.{BlocksLeft}
+use Rattle.selected_cells.specs.Walks.{Selection}
 use Rattle.selected_cells.specs.declared.opened.ItemColumn.TheVariants as item
 use Rattle.selected_cells.specs.declared.opened.SelectedColumn.{SelectedColumn}
 use Rattle.selected_cells.specs.declared.opened.SelectedColumn.TheVariants.{Numbers, Words, Texts}
@@ -36,8 +43,11 @@ use Rattle.selected_cells.proofs.ChosenLemmas.{all_chosen, chosen_first, chosen_
 use Rattle.selected_cells.proofs.LawLemmas.{chosen_allowed, opening_allowed}
 use Rattle.selected_cells.proofs.RunLemmas.{rows_of_blocks}
 use Rattle.world.specs.World.{Partition}
+use Rattle.ibis_answer.specs.declared.unprinted.Unprinted.{Unprinted}
+use Rattle.ibis_answer.specs.declared.unprinted.Unprinted.TheVariants.{Refused, BrokenOff, StoreFault, SinkFault, OutOfMemory}
 use Rattle.ibis_answer.specs.Looks.{IsItemLook, IsSelectedLook}
-use Rattle.ibis_answer.specs.Rows.{AreCellsOf, AreOpen, HasCells, WritesFirst}
+use Rattle.ibis_answer.specs.Pieces.{Puts, amid_print}
+use Rattle.ibis_answer.specs.Rows.{AreCellsOf, HasCells, WritesFirst, WritesRecords}
 use Rattle.ibis_answer.proofs.RecordLemmas.{later_count, none_selected}
 use Rattle.ibis_answer.proofs.ShownLemmas.{all_joined, text_joins}
 
@@ -142,8 +152,17 @@ module _ (files : Option Files) (dataset : Dataset) (items : List PickItem) wher
         col = col;
         of_column = e;
         kind = Values;
+        no_index = λ e. cc;
         file = ap (λ (l : Look). l.name) h.is.is ∙ look_name files dataset.dir meta col h.is.column h.run.first h.run.past is.2;
       }
+
+  opens_no_index : (kind : FileKind) → IsOpeningKind kind → kind ≢ Index
+  opens_no_index file.Mask h e = cc
+  opens_no_index file.Starts h e = cc
+  opens_no_index file.Words h e = cc
+  opens_no_index file.PartText h e = absurd h
+  opens_no_index file.Values h e = absurd h
+  opens_no_index file.Index h e = absurd h
 
   opening_look : (look : Look) → IsOpening dataset items look → IsItemLook dataset items look
   opening_look look h = record {
@@ -156,6 +175,7 @@ module _ (files : Option Files) (dataset : Dataset) (items : List PickItem) wher
     col = h.is.col;
     of_column = h.is.of_item.of_column;
     kind = h.is.is.kind;
+    no_index = opens_no_index h.is.is.kind h.is.is.is_kind;
     file = h.is.is.named;
   }
 
@@ -174,7 +194,7 @@ module _ (files : Option Files) (dataset : Dataset) (items : List PickItem) wher
     pub opening_may : (old new : Option (List Look)) → AddsOnly (IsOpening dataset items) old new → AddsOnly (IsSelectedLook dataset parts plan items) old new
     opening_may old new h =
         AddsOnly-weaken (IsOpening dataset items) (IsSelectedLook dataset parts plan items) old new
-        (λ look is. opening_allowed files dataset parts plan items look valid fits rest is) h
+        (λ look is. (opening_allowed files dataset parts plan items look valid fits rest is, opening_look look is)) h
 
     pub runs_may : (opened : List SelectedPart) (runs : List PartRun) (old mid new : Option (List Look)) → AreOpenIn files dataset items opened
         → AreChosen (rows_chosen plan parts) runs → AddsOnly (IsSelectedLook dataset parts plan items) old mid → AddsOnly (IsRunLook opened (first_runs 4096 runs)) mid new
@@ -182,7 +202,8 @@ module _ (files : Option Files) (dataset : Dataset) (items : List PickItem) wher
     runs_may opened runs old mid new open_in chosen h k =
         AddsOnly-trans (IsSelectedLook dataset parts plan items) old mid new h
         (AddsOnly-weaken (IsRunLook opened (first_runs 4096 runs)) (IsSelectedLook dataset parts plan items) mid new
-        (λ look is. chosen_allowed files dataset parts plan items opened runs look valid fits rest open_in chosen is) k)
+        (λ look is. (chosen_allowed files dataset parts plan items opened runs look valid fits rest open_in chosen is,
+        run_look opened (first_runs 4096 runs) look open_in is)) k)
 
 -- the runs that are left are chosen
 pub chosen_begun : (plan : Plan) (parts : List Partition) (chosen : List (List Bool)) (most : ℕ) (runs : List PartRun) → chosen ≡ rows_chosen plan parts
@@ -193,3 +214,75 @@ chosen_begun plan parts chosen most runs same is =
 
 pub chosen_behind : (chosen : List (List Bool)) (runs later : List PartRun) → AreChosen chosen runs → later ≡ later_runs 4096 runs → AreChosen chosen later
 chosen_behind chosen runs later h is = subst (AreChosen chosen) (sym is) (chosen_later chosen 4096 runs h)
+
+-- ---- what was written of it
+
+-- the rows of what was read so far were written
+pub record WrittenTo (files : Option Files) (dataset : Dataset) (items : List PickItem) (all runs : List PartRun) (left : ℕ) (old new : Option (List ℕ)) : Type 0 where
+  pub cells : List (List Cell)
+  pub read : ReadTo files dataset items all runs left cells
+  pub grows : Grows old new (rows_text cells)
+
+abbrev pub selection_of : Dataset → List PickItem → List SelectedPart → Selection
+selection_of dataset items opened = record { dataset = dataset; items = items; opened = opened }
+
+module _ (files : Option Files) (dataset : Dataset) (items : List PickItem) (all : List PartRun) where
+  pub written_none : (runs : List PartRun) (left : ℕ) (old : Option (List ℕ)) → runs ≡ all → left ≡ rows_of_runs all → WrittenTo files dataset items all runs left old old
+  written_none runs left old same is = record { cells = []; read = read_none files dataset items all runs left same is; grows = Grows-nil old }
+
+  pub written_more : (runs later : List PartRun) (left : ℕ) (rows : List (List Cell)) (old mid new : Option (List ℕ)) → WrittenTo files dataset items all runs left old mid
+      → later ≡ later_runs 4096 runs → length rows ≡ min 4096 (rows_of_runs runs) → AllByRecursion (CanBeAdded items) rows
+      → ((parts : List Partition) → AreParts files dataset parts → rows ≡ selected_over items parts (first_runs 4096 runs))
+      → Grows mid new (rows_text rows) → WrittenTo files dataset items all later (left - length rows) old new
+  written_more runs later left rows old mid new w is count fit own grows = record {
+    cells = w.cells ++ rows;
+    read = read_more files dataset items all runs later left w.cells rows w.read is count fit own;
+    grows = subst (Grows old new) (sym (text_joins w.cells rows)) (Grows-append old mid new (rows_text w.cells) (rows_text rows) w.grows grows);
+  }
+
+  pub written_all : (runs : List PartRun) (left : ℕ) (old new : Option (List ℕ)) → WrittenTo files dataset items all runs left old new → left ≡ 0
+      → (cells : List (List Cell)) × AreCellsOf files dataset items all cells × Grows old new (rows_text cells)
+  written_all runs left old new w none = (w.cells, read_all files dataset items all runs left w.cells w.read none, w.grows)
+
+  written_front : (runs : List PartRun) (left : ℕ) (old new : Option (List ℕ)) → WrittenTo files dataset items all runs left old new → WritesFirst files dataset items all old new
+  written_front runs left old new w = read_first files dataset items all runs left w.cells old new w.read (GrowsInPart-whole old new (rows_text w.cells) w.grows)
+
+  -- a block wasn't read
+  pub block_unread : {A : Type 0} (after : Option Files) (runs : List PartRun) (left : ℕ) (old new : Option (List ℕ)) (fault : AskFault) → after ≡ files
+      → WrittenTo files dataset items all runs left old new → IfDamaged fault (IsSelectedDamaged after dataset items)
+      → ((parts : List Partition) → AreParts after dataset parts → NoDamage fault)
+      → WritesRecords {A = A} files dataset items all old new (Err (amid_print fault))
+  block_unread after runs left old new (ask.Damaged file kind want have) kept w h whole =
+      (record {
+        found = record { file = file; kind = kind; want = want; have = have };
+        is = refl;
+        of_item = subst (λ (f : Option Files). IsSelectedDamaged f dataset items (record { file = file; kind = kind; want = want; have = have })) kept h;
+        unsound = λ parts rest. whole parts (subst (λ (f : Option Files). AreParts f dataset parts) (sym kept) rest);
+      }, written_front runs left old new w)
+  block_unread after runs left old new ask.Store kept w h whole = written_front runs left old new w
+  block_unread after runs left old new ask.OutOfMemory kept w h whole = written_front runs left old new w
+
+  -- a block wasn't printed
+  pub block_unprinted : {A B : Type 0} (runs later : List PartRun) (left : ℕ) (rows : List (List Cell)) (old mid new : Option (List ℕ)) (fault : Unprinted)
+      → WrittenTo files dataset items all runs left old mid
+      → later ≡ later_runs 4096 runs → length rows ≡ min 4096 (rows_of_runs runs) → AllByRecursion (CanBeAdded items) rows
+      → ((parts : List Partition) → AreParts files dataset parts → rows ≡ selected_over items parts (first_runs 4096 runs))
+      → Puts {A = A} (rows_text rows) mid new (Err fault) → WritesRecords {A = B} files dataset items all old new (Err fault)
+  block_unprinted runs later left rows old mid new (Refused status) w is count fit own h = absurd h
+  block_unprinted runs later left rows old mid new (BrokenOff status) w is count fit own h = absurd h
+  block_unprinted runs later left rows old mid new StoreFault w is count fit own h = absurd h
+  block_unprinted runs later left rows old mid new SinkFault w is count fit own h =
+      read_first files dataset items all later (left - length rows) (w.cells ++ rows) old new (read_more files dataset items all runs later left w.cells rows w.read is count fit own)
+      (subst (GrowsInPart old new) (sym (text_joins w.cells rows)) (GrowsInPart-append old mid new (rows_text w.cells) (rows_text rows) w.grows h))
+  block_unprinted runs later left rows old mid new OutOfMemory w is count fit own h =
+      written_front runs left old new (subst (WrittenTo files dataset items all runs left old) (sym h) w)
+
+  -- none was
+  pub none_written : {A : Type 0} (old : Option (List ℕ)) → WritesRecords {A = A} files dataset items all old old (Err OutOfMemory)
+  none_written old = record {
+    cells = [];
+    each = tt;
+    few = omega arith;
+    true_to = λ parts rest. (selected_over items parts all, refl);
+    front = GrowsInPart-none old old [] refl;
+  }

@@ -189,7 +189,8 @@ module _ (files : Option Files) (dataset : Dataset) (plan : Plan) (chosen : Chos
           let all = all_long in
           let left = later_count (wanted p.limit chosen.hits) (chosen_runs chosen) in
           let hits = hits_are in
-          omega (arith, few, others, rows, all, left, hits)
+          let less = wanted_few in
+          omega (arith, few, others, rows, all, left, hits, less)
         where
           first_few : length first_ones ≤ rows_of_runs runs_wanted
           first_few = short_selected parts p.items runs_wanted
@@ -342,13 +343,13 @@ module _ (tell : Bool) (files : Option Files) (dataset : Dataset) (picked : Opti
     true_to = λ parts rest. hits_front (shown_rows picked (selected_over (items_of picked) parts (chosen_runs chosen))) old new h;
   }
 
-  pub hits_stopped : {A B : Type 0} (old new : Option (List ℕ)) (fault : Unprinted) → Puts {A = A} (hits_line chosen.hits) old new (Err fault)
+  pub hits_stopped : (A B : Type 0) (old new : Option (List ℕ)) (fault : Unprinted) → Puts {A = A} (hits_line chosen.hits) old new (Err fault)
       → ShowsAll {A = B} tell files dataset picked chosen old new (Err fault)
-  hits_stopped old new (Refused status) h = absurd h
-  hits_stopped old new (BrokenOff status) h = absurd h
-  hits_stopped old new StoreFault h = absurd h
-  hits_stopped old new SinkFault h = hits_cut old new h
-  hits_stopped old new OutOfMemory h = hits_cut old new (GrowsInPart-none old new (hits_line chosen.hits) h)
+  hits_stopped A B old new (Refused status) h = absurd h
+  hits_stopped A B old new (BrokenOff status) h = absurd h
+  hits_stopped A B old new StoreFault h = absurd h
+  hits_stopped A B old new SinkFault h = hits_cut old new h
+  hits_stopped A B old new OutOfMemory h = hits_cut old new (GrowsInPart-none old new (hits_line chosen.hits) h)
 
   -- the rows weren't
   rows_cut : (old mid new : Option (List ℕ)) → Grows old mid (hits_line chosen.hits) → WritesShownFirst files dataset picked chosen mid new
@@ -363,13 +364,13 @@ module _ (tell : Bool) (files : Option Files) (dataset : Dataset) (picked : Opti
         rows_front w.rows own.0 (shown_rows picked (selected_over (items_of picked) parts (chosen_runs chosen))) old mid new own.1 first w.front;
   }
 
-  pub rows_stopped : {A B : Type 0} (old mid new : Option (List ℕ)) (fault : Unprinted) → Grows old mid (hits_line chosen.hits)
+  pub rows_stopped : (A B : Type 0) (old mid new : Option (List ℕ)) (fault : Unprinted) → Grows old mid (hits_line chosen.hits)
       → WritesShown {A = A} files dataset picked chosen mid new (Err fault) → ShowsAll {A = B} tell files dataset picked chosen old new (Err fault)
-  rows_stopped old mid new (Refused status) first h = absurd h
-  rows_stopped old mid new (BrokenOff status) first (tells, w) = (tells, rows_cut old mid new first w)
-  rows_stopped old mid new StoreFault first w = rows_cut old mid new first w
-  rows_stopped old mid new SinkFault first w = rows_cut old mid new first w
-  rows_stopped old mid new OutOfMemory first w = rows_cut old mid new first w
+  rows_stopped A B old mid new (Refused status) first h = absurd h
+  rows_stopped A B old mid new (BrokenOff status) first (tells, w) = (tells, rows_cut old mid new first w)
+  rows_stopped A B old mid new StoreFault first w = rows_cut old mid new first w
+  rows_stopped A B old mid new SinkFault first w = rows_cut old mid new first w
+  rows_stopped A B old mid new OutOfMemory first w = rows_cut old mid new first w
 
   -- the checks weren't
   checks_cut : (rows : List (List Cell)) (old mid more new : Option (List ℕ)) → AreShown files dataset picked chosen rows → Grows old mid (hits_line chosen.hits)

@@ -10,6 +10,7 @@ use Rattle.fb_outside.specs.Reads.{AddsOnly, Look}
 use Rattle.fb_outside.proofs.ReadLemmas.{AddsOnly-trans, AddsOnly-weaken}
 use Rattle.fb_outside.proofs.StreamLemmas.{Grows-append, Grows-nil, GrowsInPart-append, GrowsInPart-none, GrowsInPart-whole}
 use Rattle.fb_types.specs.declared.cells.Cell.{Cell}
+use Rattle.fb_types.specs.declared.types.ColType.{ColType}
 use Rattle.part_meta.specs.FileNames.{file_name}
 use Rattle.part_meta.specs.declared.names.FileKind.{FileKind}
 use Rattle.part_meta.specs.declared.names.FileKind.TheVariants as file
@@ -27,7 +28,8 @@ use Rattle.query_engine.specs.declared.fault.AskFault.{AskFault}
 use Rattle.query_engine.specs.declared.fault.AskFault.TheVariants as ask
 use Rattle.query_engine.proofs.PartLemmas.{item_at, place_in_list}
 use Rattle.two_stage.specs.Placed.{placed_at}
-use Rattle.select_group.specs.Gathered.{CanBeAdded}
+use Rattle.select_group.specs.Answer.{answer_of}
+use Rattle.select_group.specs.Gathered.{CanBeAdded, Gathered, Held}
 use Rattle.select_group.specs.Printed.{rows_text}
 use Rattle.selected_cells.specs.Damages.{IsSelectedDamaged}
 use Rattle.selected_cells.specs.Items.{FitsItem, column_of}
@@ -156,13 +158,13 @@ module _ (files : Option Files) (dataset : Dataset) (items : List PickItem) wher
         file = ap (λ (l : Look). l.name) h.is.is ∙ look_name files dataset.dir meta col h.is.column h.run.first h.run.past is.2;
       }
 
-  opens_no_index : (kind : FileKind) → IsOpeningKind kind → kind ≢ Index
-  opens_no_index file.Mask h e = cc
-  opens_no_index file.Starts h e = cc
-  opens_no_index file.Words h e = cc
-  opens_no_index file.PartText h e = absurd h
-  opens_no_index file.Values h e = absurd h
-  opens_no_index file.Index h e = absurd h
+  opens_no_index : (ty : ColType) (kind : FileKind) → IsOpeningKind ty kind → kind ≢ Index
+  opens_no_index ty file.Mask h e = cc
+  opens_no_index ty file.Starts h e = cc
+  opens_no_index ty file.Words h e = cc
+  opens_no_index ty file.PartText h e = absurd h
+  opens_no_index ty file.Values h e = absurd h
+  opens_no_index ty file.Index h e = absurd h
 
   opening_look : (look : Look) → IsOpening dataset items look → IsItemLook dataset items look
   opening_look look h = record {
@@ -175,7 +177,7 @@ module _ (files : Option Files) (dataset : Dataset) (items : List PickItem) wher
     col = h.is.col;
     of_column = h.is.of_item.of_column;
     kind = h.is.is.kind;
-    no_index = opens_no_index h.is.is.kind h.is.is.is_kind;
+    no_index = opens_no_index (placed_at dataset.dir h.part h.is.col).column.ty h.is.is.kind h.is.is.is_kind;
     file = h.is.is.named;
   }
 
@@ -215,6 +217,40 @@ chosen_begun plan parts chosen most runs same is =
 pub chosen_behind : (chosen : List (List Bool)) (runs later : List PartRun) → AreChosen chosen runs → later ≡ later_runs 4096 runs → AreChosen chosen later
 chosen_behind chosen runs later h is = subst (AreChosen chosen) (sym is) (chosen_later chosen 4096 runs h)
 
+-- ---- what was gathered of it
+
+-- what was read so far was gathered
+pub record GatheredTo (files : Option Files) (dataset : Dataset) (items : List PickItem) (all runs : List PartRun) (left : ℕ) (held : Held) : Type 0 where
+  pub cells : List (List Cell)
+  pub read : ReadTo files dataset items all runs left cells
+  pub gathered : Gathered held cells
+
+module _ (files : Option Files) (dataset : Dataset) (items : List PickItem) (all : List PartRun) where
+  pub gathered_none : (runs : List PartRun) (left : ℕ) (held : Held) → runs ≡ all → left ≡ rows_of_runs all → Gathered held [] → GatheredTo files dataset items all runs left held
+  gathered_none runs left held same is h = record { cells = []; read = read_none files dataset items all runs left same is; gathered = h }
+
+  pub gathered_more : (runs later : List PartRun) (left taken : ℕ) (rows : List (List Cell)) (held new : Held) → taken ≡ length rows
+      → GatheredTo files dataset items all runs left held
+      → later ≡ later_runs 4096 runs → length rows ≡ min 4096 (rows_of_runs runs) → AllByRecursion (CanBeAdded items) rows
+      → ((parts : List Partition) → AreParts files dataset parts → rows ≡ selected_over items parts (first_runs 4096 runs))
+      → ((cells : List (List Cell)) → Gathered held cells → Gathered new (cells ++ rows)) → GatheredTo files dataset items all later (left - taken) new
+  gathered_more runs later left taken rows held new so_many w is count fit own more = record {
+    cells = w.cells ++ rows;
+    read = subst (λ n. ReadTo files dataset items all later (left - n) (w.cells ++ rows)) (sym so_many)
+        (read_more files dataset items all runs later left w.cells rows w.read is count fit own);
+    gathered = more w.cells w.gathered;
+  }
+
+  -- so many were added, and so many may be
+  pub few_added : (runs : List PartRun) (left most : ℕ) (rows : List (List Cell)) (held : Held) → GatheredTo files dataset items all runs left held
+      → rows_of_runs all ≤ most → length rows ≡ min 4096 (rows_of_runs runs) → held.added + length rows ≤ most
+  few_added runs left most rows held w few count = omega (arith, w.gathered.added, w.read.number, w.read.left_are, few, count)
+
+  pub answer_gathered : (runs : List PartRun) (left : ℕ) (held : Held) (rows : List (List Cell)) → GatheredTo files dataset items all runs left held → left ≡ 0
+      → ((cells : List (List Cell)) → Gathered held cells → rows ≡ answer_of held.pick cells)
+      → (cells : List (List Cell)) × AreCellsOf files dataset items all cells × (rows ≡ answer_of held.pick cells)
+  answer_gathered runs left held rows w none is = (w.cells, read_all files dataset items all runs left w.cells w.read none, is w.cells w.gathered)
+
 -- ---- what was written of it
 
 -- the rows of what was read so far were written
@@ -230,13 +266,15 @@ module _ (files : Option Files) (dataset : Dataset) (items : List PickItem) (all
   pub written_none : (runs : List PartRun) (left : ℕ) (old : Option (List ℕ)) → runs ≡ all → left ≡ rows_of_runs all → WrittenTo files dataset items all runs left old old
   written_none runs left old same is = record { cells = []; read = read_none files dataset items all runs left same is; grows = Grows-nil old }
 
-  pub written_more : (runs later : List PartRun) (left : ℕ) (rows : List (List Cell)) (old mid new : Option (List ℕ)) → WrittenTo files dataset items all runs left old mid
+  pub written_more : (runs later : List PartRun) (left taken : ℕ) (rows : List (List Cell)) (old mid new : Option (List ℕ)) → taken ≡ length rows
+      → WrittenTo files dataset items all runs left old mid
       → later ≡ later_runs 4096 runs → length rows ≡ min 4096 (rows_of_runs runs) → AllByRecursion (CanBeAdded items) rows
       → ((parts : List Partition) → AreParts files dataset parts → rows ≡ selected_over items parts (first_runs 4096 runs))
-      → Grows mid new (rows_text rows) → WrittenTo files dataset items all later (left - length rows) old new
-  written_more runs later left rows old mid new w is count fit own grows = record {
+      → Grows mid new (rows_text rows) → WrittenTo files dataset items all later (left - taken) old new
+  written_more runs later left taken rows old mid new so_many w is count fit own grows = record {
     cells = w.cells ++ rows;
-    read = read_more files dataset items all runs later left w.cells rows w.read is count fit own;
+    read = subst (λ n. ReadTo files dataset items all later (left - n) (w.cells ++ rows)) (sym so_many)
+        (read_more files dataset items all runs later left w.cells rows w.read is count fit own);
     grows = subst (Grows old new) (sym (text_joins w.cells rows)) (Grows-append old mid new (rows_text w.cells) (rows_text rows) w.grows grows);
   }
 
@@ -248,38 +286,38 @@ module _ (files : Option Files) (dataset : Dataset) (items : List PickItem) (all
   written_front runs left old new w = read_first files dataset items all runs left w.cells old new w.read (GrowsInPart-whole old new (rows_text w.cells) w.grows)
 
   -- a block wasn't read
-  pub block_unread : {A : Type 0} (after : Option Files) (runs : List PartRun) (left : ℕ) (old new : Option (List ℕ)) (fault : AskFault) → after ≡ files
+  pub block_unread : (A : Type 0) (after : Option Files) (runs : List PartRun) (left : ℕ) (old new : Option (List ℕ)) (fault : AskFault) → after ≡ files
       → WrittenTo files dataset items all runs left old new → IfDamaged fault (IsSelectedDamaged after dataset items)
       → ((parts : List Partition) → AreParts after dataset parts → NoDamage fault)
       → WritesRecords {A = A} files dataset items all old new (Err (amid_print fault))
-  block_unread after runs left old new (ask.Damaged file kind want have) kept w h whole =
+  block_unread A after runs left old new (ask.Damaged file kind want have) kept w h whole =
       (record {
         found = record { file = file; kind = kind; want = want; have = have };
         is = refl;
         of_item = subst (λ (f : Option Files). IsSelectedDamaged f dataset items (record { file = file; kind = kind; want = want; have = have })) kept h;
         unsound = λ parts rest. whole parts (subst (λ (f : Option Files). AreParts f dataset parts) (sym kept) rest);
       }, written_front runs left old new w)
-  block_unread after runs left old new ask.Store kept w h whole = written_front runs left old new w
-  block_unread after runs left old new ask.OutOfMemory kept w h whole = written_front runs left old new w
+  block_unread A after runs left old new ask.Store kept w h whole = written_front runs left old new w
+  block_unread A after runs left old new ask.OutOfMemory kept w h whole = written_front runs left old new w
 
   -- a block wasn't printed
-  pub block_unprinted : {A B : Type 0} (runs later : List PartRun) (left : ℕ) (rows : List (List Cell)) (old mid new : Option (List ℕ)) (fault : Unprinted)
+  pub block_unprinted : (A B : Type 0) (runs later : List PartRun) (left : ℕ) (rows : List (List Cell)) (old mid new : Option (List ℕ)) (fault : Unprinted)
       → WrittenTo files dataset items all runs left old mid
       → later ≡ later_runs 4096 runs → length rows ≡ min 4096 (rows_of_runs runs) → AllByRecursion (CanBeAdded items) rows
       → ((parts : List Partition) → AreParts files dataset parts → rows ≡ selected_over items parts (first_runs 4096 runs))
       → Puts {A = A} (rows_text rows) mid new (Err fault) → WritesRecords {A = B} files dataset items all old new (Err fault)
-  block_unprinted runs later left rows old mid new (Refused status) w is count fit own h = absurd h
-  block_unprinted runs later left rows old mid new (BrokenOff status) w is count fit own h = absurd h
-  block_unprinted runs later left rows old mid new StoreFault w is count fit own h = absurd h
-  block_unprinted runs later left rows old mid new SinkFault w is count fit own h =
+  block_unprinted A B runs later left rows old mid new (Refused status) w is count fit own h = absurd h
+  block_unprinted A B runs later left rows old mid new (BrokenOff status) w is count fit own h = absurd h
+  block_unprinted A B runs later left rows old mid new StoreFault w is count fit own h = absurd h
+  block_unprinted A B runs later left rows old mid new SinkFault w is count fit own h =
       read_first files dataset items all later (left - length rows) (w.cells ++ rows) old new (read_more files dataset items all runs later left w.cells rows w.read is count fit own)
       (subst (GrowsInPart old new) (sym (text_joins w.cells rows)) (GrowsInPart-append old mid new (rows_text w.cells) (rows_text rows) w.grows h))
-  block_unprinted runs later left rows old mid new OutOfMemory w is count fit own h =
+  block_unprinted A B runs later left rows old mid new OutOfMemory w is count fit own h =
       written_front runs left old new (subst (WrittenTo files dataset items all runs left old) (sym h) w)
 
   -- none was
-  pub none_written : {A : Type 0} (old : Option (List ℕ)) → WritesRecords {A = A} files dataset items all old old (Err OutOfMemory)
-  none_written old = record {
+  pub none_written : (A : Type 0) (old : Option (List ℕ)) → WritesRecords {A = A} files dataset items all old old (Err OutOfMemory)
+  none_written A old = record {
     cells = [];
     each = tt;
     few = omega arith;

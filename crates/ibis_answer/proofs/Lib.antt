@@ -11,3 +11,4 @@ pub mod RecordLemmas
 pub mod ShownLemmas
 pub mod WalkLemmas
 pub mod ReadyLemmas
+pub mod AddLemmas

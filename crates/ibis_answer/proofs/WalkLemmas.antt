@@ -43,7 +43,7 @@ use Rattle.selected_cells.specs.declared.opened.SelectedColumn.TheVariants.{Numb
 use Rattle.selected_cells.specs.declared.opened.SelectedPart.{SelectedPart}
 use Rattle.selected_cells.proofs.ChosenLemmas.{all_chosen, chosen_first, chosen_later}
 use Rattle.selected_cells.proofs.LawLemmas.{chosen_allowed, opening_allowed}
-use Rattle.selected_cells.proofs.RunLemmas.{rows_of_blocks}
+use Rattle.selected_cells.proofs.RunLemmas.{rows_of_blocks, rows_of_first}
 use Rattle.world.specs.World.{Partition}
 use Rattle.ibis_answer.specs.declared.unprinted.Unprinted.{Unprinted}
 use Rattle.ibis_answer.specs.declared.unprinted.Unprinted.TheVariants.{Refused, BrokenOff, StoreFault, SinkFault, OutOfMemory}
@@ -217,6 +217,22 @@ chosen_begun plan parts chosen most runs same is =
 pub chosen_behind : (chosen : List (List Bool)) (runs later : List PartRun) → AreChosen chosen runs → later ≡ later_runs 4096 runs → AreChosen chosen later
 chosen_behind chosen runs later h is = subst (AreChosen chosen) (sym is) (chosen_later chosen 4096 runs h)
 
+-- the first so many records of runs that have no more are all of them
+pub cells_of_all : (files : Option Files) (dataset : Dataset) (items : List PickItem) (hits : ℕ) (runs : List PartRun) (cells : List (List Cell)) → hits ≡ rows_of_runs runs
+    → AreCellsOf files dataset items (first_runs hits runs) cells → AreCellsOf files dataset items runs cells
+cells_of_all files dataset items hits runs cells is of =
+    let none = later_count hits runs in
+    let count = rows_of_first hits runs in
+    record {
+      each = of.each;
+      number = omega (arith, of.number, count, is);
+      true_to =
+          λ parts rest. of.true_to parts rest
+          ∙ sym (append-nil (selected_over items parts (first_runs hits runs)))
+          ∙ ap (λ (xs : List (List Cell)). selected_over items parts (first_runs hits runs) ++ xs) (sym (none_selected items parts (later_runs hits runs) (omega (arith, none, is))))
+          ∙ rows_of_blocks items parts hits runs;
+    }
+
 -- ---- what was gathered of it
 
 -- what was read so far was gathered
@@ -248,8 +264,11 @@ module _ (files : Option Files) (dataset : Dataset) (items : List PickItem) (all
 
   pub answer_gathered : (runs : List PartRun) (left : ℕ) (held : Held) (rows : List (List Cell)) → GatheredTo files dataset items all runs left held → left ≡ 0
       → ((cells : List (List Cell)) → Gathered held cells → rows ≡ answer_of held.pick cells)
-      → (cells : List (List Cell)) × AreCellsOf files dataset items all cells × (rows ≡ answer_of held.pick cells)
-  answer_gathered runs left held rows w none is = (w.cells, read_all files dataset items all runs left w.cells w.read none, is w.cells w.gathered)
+      → (hits : ℕ) (asked : List PartRun) → all ≡ first_runs hits asked → hits ≡ rows_of_runs asked
+      → (cells : List (List Cell)) × AreCellsOf files dataset items asked cells × (rows ≡ answer_of held.pick cells)
+  answer_gathered runs left held rows w none is hits asked first many =
+      (w.cells, cells_of_all files dataset items hits asked w.cells many
+      (subst (λ (xs : List PartRun). AreCellsOf files dataset items xs w.cells) first (read_all files dataset items all runs left w.cells w.read none)), is w.cells w.gathered)
 
 -- ---- what was written of it
 

@@ -1,7 +1,7 @@
 use Rattle.std.proofs.Common.{◌≡◌, ◌+◌, ◌≤◌, List}
 use Rattle.fb_outside.specs.Reads.{AddsOnly}
 use Rattle.query_engine.specs.Parts.{AreParts, rows_chosen}
-use Rattle.selected_cells.specs.Runs.{AreChosen}
+use Rattle.selected_cells.specs.Runs.{AreChosen, first_runs}
 use Rattle.selected_cells.specs.Walks.{words_over}
 use Rattle.where_plan.specs.declared.plan.Plan.{Plan}
 use Rattle.world.specs.World.{Partition}
@@ -19,7 +19,7 @@ invariant-loop-left g l =
       same : l.blocks.selection ≡ selection_of l.dataset l.pick.items l.opened;
       picked : l.grouper.pick ≡ l.pick;
       looked : AddsOnly (IsItemLook l.dataset l.pick.items) (g.S.Store.reads l.fn.store) (g.S.Store.reads l.store);
-      gathered : GatheredTo files l.dataset l.pick.items (chosen_runs l.chosen) l.blocks.runs l.left l.grouper;
+      gathered : GatheredTo files l.dataset l.pick.items (first_runs l.chosen.hits (chosen_runs l.chosen)) l.blocks.runs l.left l.grouper;
       taken : l.steps + l.blocks.words ≤ l.fn.steps + words_over l.chosen.parts l.opened;
       are_chosen : (plan : Plan) (parts : List Partition) → l.chosen.parts ≡ rows_chosen plan parts → AreChosen (rows_chosen plan parts) l.blocks.runs;
       may : (parts : List Partition) (plan : Plan) → AreParts files l.dataset parts → l.chosen.parts ≡ rows_chosen plan parts

@@ -37,7 +37,7 @@ use Rattle.ibis_answer.specs.declared.unprinted.Unprinted.{Unprinted}
 use Rattle.ibis_answer.specs.declared.unprinted.Unprinted.TheVariants.{Refused, BrokenOff, StoreFault, SinkFault, OutOfMemory}
 use Rattle.ibis_answer.specs.Answer.{Asking, answer_text, given_in, shown_rows, taken_in, text_in}
 use Rattle.ibis_answer.specs.Asked.{IsSelection, Selects, stop_of_ask}
-use Rattle.ibis_answer.specs.Causes.{IsFrontOf, IsItemDamaged, IsQueryDamaged, Shows, TextComes, Writes, WritesFront, WritesInWorld, WritesOf}
+use Rattle.ibis_answer.specs.Causes.{IsFrontOf, IsQueryDamaged, IsTextOfWorld, Shows, TextComes, Writes, WritesFront, WritesInWorld, WritesOf}
 use Rattle.ibis_answer.specs.Pieces.{before_print}
 use Rattle.ibis_answer.specs.Query.{items_of, pick_of}
 use Rattle.ibis_answer.specs.Ready.{IsReady, IsTurnedDown, Readies}
@@ -74,27 +74,6 @@ module _ (tell : Bool) (dir query : List ℕ) (files : Option Files) (selection 
   damage_comes found h =
       asked_comes dir query files selection is (IsQueryDamaged files) (Shows tell) (Err (damaged_status found))
       (found, refl, inr (subst (λ (p : Option Pick). IsSelectedDamaged files selection.dataset (items_of p) found) is.picked h))
-
-module _ (tell : Bool) (dir query : List ℕ) (files : Option Files) (ready : Ready) (is : IsReady dir query files ready) (old new : Option (List ℕ)) where
-  front_of : ShowsFront tell files ready.selection.dataset ready.selection.pick ready.chosen old new → WritesFront dir query tell files old new
-  front_of w =
-      (answer_text tell ready.chosen.hits (shown_rows ready.selection.pick w.cells) ready.chosen.checked,
-      comes_is tell dir query files ready.selection ready.chosen.checked ready.chosen.hits is.selected w.cells w.each w.number, w.front)
-
-  pub shown_writes : {A : Type 0} (result : Result A Unprinted) → ShowsAll tell files ready.selection.dataset ready.selection.pick ready.chosen old new result
-      → Writes dir query tell files old new result
-  shown_writes (Ok done) (rows, are, grows) =
-      (answer_text tell ready.chosen.hits (shown_rows ready.selection.pick are.cells) ready.chosen.checked,
-      comes_is tell dir query files ready.selection ready.chosen.checked ready.chosen.hits is.selected are.cells are.each are.number,
-      subst (λ (xs : List (List Cell)). Grows old new (answer_text tell ready.chosen.hits xs ready.chosen.checked)) are.is grows)
-  shown_writes (Err (Refused status)) h = absurd h
-  shown_writes (Err (BrokenOff status)) (tells, w) =
-      (subst (λ (s : Status). TextComes dir query tell files (Err s)) (sym tells.is)
-      (damage_comes tell dir query files ready.selection ready.chosen.checked ready.chosen.hits is.selected tells.found tells.of_item),
-      front_of w)
-  shown_writes (Err StoreFault) w = inr (front_of w)
-  shown_writes (Err SinkFault) w = front_of w
-  shown_writes (Err OutOfMemory) w = inr (front_of w)
 
 pub stopped_writes : {A : Type 0} (tell : Bool) (dir query : List ℕ) (files : Option Files) (old : Option (List ℕ)) (stop : Unanswered) → Readies dir query files (Err stop)
     → Writes {A = A} dir query tell files old old (Err (before_print stop))
@@ -177,6 +156,38 @@ pub shown_world : {A : Type 0} (tell : Bool) (dir query : List ℕ) (files : Opt
     → WritesInWorld dir query tell files old new result
 shown_world tell dir query None ready is path old new result h world stands = absurd stands
 shown_world tell dir query (Some m) ready is path old new result h world stands = shown_of tell dir query m ready is path world stands old new result h
+
+own_text : (tell : Bool) (dir query : List ℕ) (files : Option Files) (ready : Ready) (is : IsReady dir query files ready) (path : IsPath dir) (rows : List (List Cell))
+    → ((parts : List Partition) → AreParts files ready.selection.dataset parts → rows ≡ shown_rows ready.selection.pick (selected_over (items_of ready.selection.pick) parts (chosen_runs ready.chosen)))
+    → IsTextOfWorld dir query tell files (answer_text tell ready.chosen.hits rows ready.chosen.checked)
+own_text tell dir query None ready is path rows own world stands = absurd stands
+own_text tell dir query (Some m) ready is path rows own world stands =
+    let t = asked_in_world m world dir stands path query ready.selection is.selected in
+    world_reply tell dir query m ready is path world stands rows (own t.content.parts t.parts)
+
+-- ---- over every store, of what was shown
+
+module _ (tell : Bool) (dir query : List ℕ) (files : Option Files) (ready : Ready) (is : IsReady dir query files ready) (old new : Option (List ℕ)) where
+  front_of : ShowsFront tell files ready.selection.dataset ready.selection.pick ready.chosen old new → WritesFront dir query tell files old new
+  front_of w =
+      (answer_text tell ready.chosen.hits (shown_rows ready.selection.pick w.cells) ready.chosen.checked,
+      comes_is tell dir query files ready.selection ready.chosen.checked ready.chosen.hits is.selected w.cells w.each w.number, w.front)
+
+  pub shown_writes : {A : Type 0} (path : IsPath dir) (result : Result A Unprinted) → ShowsAll tell files ready.selection.dataset ready.selection.pick ready.chosen old new result
+      → Writes dir query tell files old new result
+  shown_writes path (Ok done) (rows, are, grows) =
+      (answer_text tell ready.chosen.hits rows ready.chosen.checked,
+      subst (λ (xs : List (List Cell)). TextComes dir query tell files (Ok (answer_text tell ready.chosen.hits xs ready.chosen.checked))) (sym are.is)
+      (comes_is tell dir query files ready.selection ready.chosen.checked ready.chosen.hits is.selected are.cells are.each are.number),
+      own_text tell dir query files ready is path rows are.true_to, grows)
+  shown_writes path (Err (Refused status)) h = absurd h
+  shown_writes path (Err (BrokenOff status)) (tells, w) =
+      (subst (λ (s : Status). TextComes dir query tell files (Err s)) (sym tells.is)
+      (damage_comes tell dir query files ready.selection ready.chosen.checked ready.chosen.hits is.selected tells.found tells.of_item),
+      front_of w)
+  shown_writes path (Err StoreFault) w = inr (front_of w)
+  shown_writes path (Err SinkFault) w = front_of w
+  shown_writes path (Err OutOfMemory) w = inr (front_of w)
 
 -- ---- what stops it before
 

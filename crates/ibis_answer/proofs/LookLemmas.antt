@@ -3,6 +3,7 @@ use Rattle.std.proofs.Common.{◌≡◌, ◌⊎◌, ◌<◌, ◌≤◌, ◌||◌
 use Rattle.std.specs.Prelude.{IsOkAnd}
 use Rattle.std.specs.List.{AllByRecursion, filter, list_any, slice_get}
 use Rattle.std.specs.Str.{bytes_eq}
+use Rattle.std.proofs.lemmas.List.{append-nil}
 use Rattle.std.proofs.lemmas.Option.{slice_get-map}
 use Rattle.std.proofs.lemmas.Slice.Eq.{bytes_eq-Decides}
 use Rattle.fb_outside.specs.Files.{Files}
@@ -73,11 +74,11 @@ opening_of_bounds dir query old new h =
 pub wrong : {X : Type 0} → false ≡ true → X
 wrong e = absurd (cc)
 
-or_first : (a b : Bool) → a ≡ true → (a || b) ≡ true
+pub or_first : (a b : Bool) → a ≡ true → (a || b) ≡ true
 or_first true b e = refl
 or_first false b e = absurd (cc)
 
-or_second : (a b : Bool) → b ≡ true → (a || b) ≡ true
+pub or_second : (a b : Bool) → b ≡ true → (a || b) ≡ true
 or_second true b e = refl
 or_second false b e = e
 
@@ -149,11 +150,11 @@ module _ (dir query : List ℕ) (files : Option Files) (selection : Selection) (
 
 -- ---- texts, where the files stand for a world
 
-not_true : (b : Bool) → (b ≡ true → ⊥) → b ≡ false
+pub not_true : (b : Bool) → (b ≡ true → ⊥) → b ≡ false
 not_true true wrong = absurd (wrong refl)
 not_true false wrong = refl
 
-none_pass : {X : Type 0} (test : X → Bool) (xs : List X) → ((place : ℕ) (x : X) → slice_get xs place ≡ Some x → test x ≡ false) → list_any test xs ≡ false
+pub none_pass : {X : Type 0} (test : X → Bool) (xs : List X) → ((place : ℕ) (x : X) → slice_get xs place ≡ Some x → test x ≡ false) → list_any test xs ≡ false
 none_pass test [] none = refl
 none_pass test (x ∷ xs) none = ap (λ b. b || list_any test xs) (none 0 x refl) ∙ none_pass test xs (λ place y there. none (suc place) y there)
 
@@ -309,3 +310,33 @@ module _ (allowed : Asking → List Partition → Look → Bool) (dir query : Li
       (found_read m world dir stands content there.at allowed is.asked old mid new more listed
       (adds_done mid new (allowed (asking is.asked dataset) content.parts) (is_bitmap_over dataset content.parts)
       (bitmaps_over dataset content.parts (plan_of content.schema is.asked.clause)) done more is_done of_plan)))
+
+  -- what is read behind that has no bitmaps
+  pub more_reads : (files after : Option Files) (selection : Selection) (old mid new : Option (List Look)) (done more : Type 0) → done → IsPath dir
+      → (is : IsSelection dir query files selection) → (by_plan : Plan → List Partition → Look → Bool)
+      → ((parts : List Partition) → by_plan (plan_of selection.dataset.schema is.asked.clause) parts ≡ allowed (asking is.asked selection.dataset) parts)
+      → after ≡ files → LooksInWorld allowed dir query files old mid done
+      → ((parts : List Partition) → AreParts after selection.dataset parts
+      → AddsLooks mid new (by_plan selection.plan parts) (is_bitmap_over selection.dataset parts) [] more)
+      → LooksInWorld allowed dir query files old new more
+  more_reads None after selection old mid new done more is_done path is by_plan same kept first reads world stands = absurd stands
+  more_reads (Some m) after selection old mid new done more is_done path is by_plan same kept first reads world stands =
+      let there = asked_in_world m world dir stands path query selection is in
+      let content = there.content in
+      let dataset = dataset_in dir content in
+      let own_plan = is_plan_of selection.dataset.schema is.asked.clause selection.plan is.planned in
+      let bitmaps = bitmaps_over dataset content.parts (plan_of content.schema is.asked.clause) in
+      let may : Look → Bool = allowed (asking is.asked dataset) content.parts in
+      let either : Look → Bool = λ look. is_text_in dir content look || may look in
+      let found = reads content.parts (subst (λ (f : Option Files). AreParts f selection.dataset content.parts) (sym kept) there.parts) in
+      let looks = subst (λ (p : Look → Bool). AddsLooks mid new p (is_bitmap_over selection.dataset content.parts) [] more)
+      (ap (λ (p : Plan). by_plan p content.parts) own_plan ∙ same content.parts) found in
+      let of_dataset = subst (λ (d : Dataset). AddsLooks mid new (allowed (asking is.asked d) content.parts) (is_bitmap_over d content.parts) [] more) there.same looks in
+      let before : AddsAllowedLooks allowed dir (asking is.asked dataset) content old mid done =
+      subst (λ (c : Option Content). AddsGivenLooks allowed dir (Ok (asking is.asked dataset)) c old mid done) there.at
+      (subst (λ (r : Result Asking Status). AddsGivenLooks allowed dir r (content_at world dir) old mid done) there.asked (first world stands)) in
+      subst (λ (r : Result Asking Status). AddsGivenLooks allowed dir r (content_at world dir) old new more) (sym there.asked)
+      (subst (λ (c : Option Content). AddsGivenLooks allowed dir (Ok (asking is.asked dataset)) c old new more) (sym there.at)
+      (subst (λ (xs : List Look). AddsLooks old new either (is_bitmap_over dataset content.parts) xs more) (append-nil bitmaps)
+      (adds_joined old mid new either (is_bitmap_over dataset content.parts) bitmaps [] done more is_done before
+      (adds_weaker mid new may either (is_bitmap_over dataset content.parts) [] more (λ look t. or_second (is_text_in dir content look) (may look) t) of_dataset))))

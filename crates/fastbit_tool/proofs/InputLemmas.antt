@@ -1,5 +1,5 @@
 -- A command that a session has takes nothing from the input, whatever that is.
-use Rattle.std.proofs.Common.{◌≡◌, ◌≢◌, ℕ, Bool, true, false, is_some, List, [], Option, Some, None, refl, if◌then◌else◌}
+use Rattle.std.proofs.Common.{◌≡◌, ℕ, Bool, true, false, is_some, List, Option, Some, None, refl, if◌then◌else◌}
 use Rattle.command_words.specs.declared.Job.{Job}
 use Rattle.command_words.specs.declared.Job.TheVariants.{Ardea, Gen, Ibis, Session}
 use Rattle.command_words.specs.declared.Load.{Load}

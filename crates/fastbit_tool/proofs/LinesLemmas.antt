@@ -1,10 +1,10 @@
 -- From how the lines of a session ran to what they answer and do together.
-use Rattle.std.proofs.Common.{◌≡◌, ◌≢◌, ◌⊎◌, inl, inr, ℕ, ◌+◌, ◌≤◌, Bool, true, false, List, [], ◌∷◌, ◌++◌, length, take, Option, Some, None, refl, sym, ap, subst, ◌∙◌, arith}
+use Rattle.std.proofs.Common.{◌≡◌, ◌≢◌, ◌⊎◌, inl, inr, ℕ, ◌+◌, Bool, true, false, List, [], ◌∷◌, ◌++◌, length, take, Option, Some, None, refl, sym, ap, subst, ◌∙◌, arith}
 use Rattle.std.proofs.lemmas.List.{take-append-le, length-append}
 use Rattle.std.proofs.Math.Seq.{take-append-add, take-length}
 use Rattle.fb_outside.specs.Files.{ChangesAmong, Files, SameFiles}
 use Rattle.fb_outside.specs.Streams.{Grows, GrowsInPart}
-use Rattle.fb_outside.proofs.StreamLemmas.{Grows-append, Grows-nil, GrowsInPart-append, GrowsInPart-front, GrowsInPart-none}
+use Rattle.fb_outside.proofs.StreamLemmas.{Grows-append, Grows-nil, GrowsInPart-append, GrowsInPart-front}
 use Rattle.fb_outside.proofs.FileLemmas.{ChangesAmong-same, ChangesAmong-trans, ChangesAmong-weaken}
 use Rattle.world.specs.World.{World}
 use Rattle.world.specs.Stands.{StandsFor}
@@ -13,10 +13,10 @@ use Rattle.statuses.specs.declared.Status.{Status}
 use Rattle.statuses.specs.declared.Status.TheVariants.{Done, ReadFault, OutOfMemory}
 use Rattle.statuses.specs.Outcome.{Outcome}
 use Rattle.commands.specs.Command.{Command}
-use Rattle.commands.specs.Effects.{IsOfCommand, LeavesAfter}
+use Rattle.commands.specs.Effects.{LeavesAfter}
 use Rattle.commands.specs.Reply.{Replies, RepliesBy, is_fault}
 use Rattle.commands.proofs.PrintLemmas.{Replies-fault, Replies-quiet}
-use Rattle.fastbit_tool.specs.Session.{GoesOn, LineRuns, LineRunsBy, LinesRun, Outside, Skips, Stops, followed_by, line_command, line_outcome, lines_outcome, nothing, outcome_by}
+use Rattle.fastbit_tool.specs.Session.{LineRunsBy, LinesRun, Outside, followed_by, line_command, line_outcome, lines_outcome, nothing, outcome_by}
 use Rattle.fastbit_tool.specs.Requests.{IsOfLineBy, IsOfLines}
 
 -- ---- replies

@@ -13,10 +13,9 @@ use Rattle.statuses.specs.Lines.{line_of}
 use Rattle.statuses.specs.declared.Status.{Status}
 use Rattle.statuses.specs.declared.Status.TheVariants.{Done, Usage, BadSchema, BadInput, SchemaDiffers, BadQuery, BadSpec, NoDataset, Damaged, Limit, ReadFault, StoreFault, SinkFault, OutOfMemory}
 use Rattle.statuses.specs.Outcome.{Outcome, refused}
-use Rattle.commands.specs.Command.{command_outcome}
-use Rattle.commands.specs.Causes.{HasCauseIn, Printed, Says, SaysBy, is_silent}
+use Rattle.commands.specs.Causes.{HasCauseIn, Says, SaysBy, is_silent}
 use Rattle.commands.specs.Effects.{LeavesAfter}
-use Rattle.commands.specs.Reply.{Replies, RepliesBy, is_fault}
+use Rattle.commands.specs.Reply.{Replies, is_fault}
 use Rattle.commands.specs.Runs.{Prints}
 use Rattle.commands.proofs.PrintLemmas.{Replies-quiet, says_printed, some_input, some_told}
 use Rattle.ardea.proofs.AnswerLemmas.{all_taken, came_short}

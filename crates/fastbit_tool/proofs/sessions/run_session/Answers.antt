@@ -1,4 +1,4 @@
-use Rattle.std.proofs.Common.{◌≡◌, refl, sym, ◌∙◌, arith}
+use Rattle.std.proofs.Common.{refl, ◌∙◌, arith}
 use Rattle.fastbit_tool.specs.Session.{lines_of}
 use Rattle.fastbit_tool.proofs.LinesLemmas.{lines_unread}
 use Rattle.fastbit_tool.proofs.SessionLemmas.{session_long, session_ran}

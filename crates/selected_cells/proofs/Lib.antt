@@ -1,1 +1,13 @@
+pub mod PresentLemmas
+pub mod CellLemmas
 pub mod RunLemmas
+pub mod SpanLemmas
+pub mod ValueLemmas
+pub mod DamageLemmas
+pub mod OpenLemmas
+pub mod StepLemmas
+pub mod ItemLemmas
+pub mod FillLemmas
+pub mod BlockLemmas
+pub mod ChosenLemmas
+pub mod LawLemmas

@@ -9,18 +9,19 @@ use Rattle.two_stage.specs.Faults.{StopsAt}
 use Rattle.two_stage.specs.Placed.{placed_at}
 use Rattle.two_stage.specs.declared.fault.EvalFault.{EvalFault}
 use Rattle.query_engine.specs.Damage.{damage_of}
-use Rattle.selected_cells.specs.Items.{column_of}
+use Rattle.selected_cells.specs.Items.{HasItem}
 
--- In this part a file of the column of an item is refused so.
-pub record IsPartDamaged (files : Option Files) (dataset : Dataset) (part : PartMeta) (items : List PickItem) (found : Damage) : Type 0 where
-  pub place : ℕ
-  pub picked : PickItem
-  pub of_item : slice_get items place ≡ Some picked
-  pub col : ℕ
-  pub of_column : column_of picked ≡ Some col
+-- In this part a file of the column is refused so.
+pub record IsColumnDamaged (files : Option Files) (dataset : Dataset) (part : PartMeta) (col : ℕ) (found : Damage) : Type 0 where
   pub fault : EvalFault
   pub is : StopsAt files (placed_at dataset.dir part col) fault
   pub told : damage_of dataset part fault ≡ Some found
+
+-- a file of the column of one of these items
+pub record IsPartDamaged (files : Option Files) (dataset : Dataset) (part : PartMeta) (items : List PickItem) (found : Damage) : Type 0 where
+  pub col : ℕ
+  pub of_item : HasItem items col
+  pub is : IsColumnDamaged files dataset part col found
 
 -- the same in a part that the dataset lists
 pub record IsSelectedDamaged (files : Option Files) (dataset : Dataset) (items : List PickItem) (found : Damage) : Type 0 where

@@ -1,5 +1,5 @@
 -- The columns that the items of a select list are of, and what cells a record has for them.
-use Rattle.std.specs.Prelude.{ℕ, ◌<◌, List, length, map, Option, Some, None, IfSome, slice_index_or}
+use Rattle.std.specs.Prelude.{◌≡◌, ℕ, ◌<◌, List, length, map, Option, Some, None, IfSome, slice_get, slice_index_or}
 use Rattle.fb_types.specs.declared.cells.Cell.{Cell}
 use Rattle.fb_types.specs.declared.cells.Cell.TheVariants.{Null}
 use Rattle.fb_types.specs.declared.schemas.Column.{Column}
@@ -22,6 +22,17 @@ abbrev pub cell_at : List Cell → Option ℕ → Cell
 cell_at cells None = Null
 cell_at cells (Some col) = slice_index_or cells col Null
 
+-- the cell that a record has for an item
+abbrev pub item_cell : PickItem → List Cell → Cell
+item_cell picked cells = cell_at cells (column_of picked)
+
 -- of a record one cell for each item: that of the item's column, and null for `count(*)`
 abbrev pub selected_cells : List PickItem → List Cell → List Cell
-selected_cells items cells = map (λ picked. cell_at cells (column_of picked)) items
+selected_cells items cells = map (λ picked. item_cell picked cells) items
+
+-- one of these items is of the column
+pub record HasItem (items : List PickItem) (col : ℕ) : Type 0 where
+  pub place : ℕ
+  pub picked : PickItem
+  pub of_item : slice_get items place ≡ Some picked
+  pub of_column : column_of picked ≡ Some col

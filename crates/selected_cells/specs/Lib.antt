@@ -1,8 +1,9 @@
-pub mod Present
 pub mod Items
-pub mod Runs
 pub mod Opened
+pub mod Present
 pub mod Cells
+pub mod Spans
+pub mod Runs
 pub mod Reads
 pub mod Damages
 pub mod Walks

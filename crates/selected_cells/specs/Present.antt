@@ -1,6 +1,7 @@
 -- What the runs of a vector tell of its rows from one on.
-use Rattle.std.specs.Prelude.{◌≡◌, ℕ, ◌≤◌, ◌&&◌, Bool, false, List, [], ◌∷◌, get_or, nat_le, nat_lt}
+use Rattle.std.specs.Prelude.{◌≡◌, ℕ, ◌≤◌, ◌&&◌, Bool, false, List, [], ◌∷◌, Option, None, Some, get_or, nat_le, nat_lt}
 use Rattle.std.specs.List.{list_any}
+use Rattle.wah_iter.specs.Walks.{RunsLeft}
 
 -- the row is in one of the runs, each of which is its first row and the one past its last
 abbrev pub is_in_run : List (ℕ × ℕ) → ℕ → Bool
@@ -20,3 +21,13 @@ AreInOrder (run ∷ runs) = (run.0 ≤ run.1) × IfFirst runs (λ next. run.1 �
 pub record TellsFrom (runs : List (ℕ × ℕ)) (from : ℕ) (rows : List Bool) : Type 0 where
   pub ordered : AreInOrder runs
   pub each : (row : ℕ) → from ≤ row → is_in_run runs row ≡ get_or rows row false
+
+-- there is a walk over a vector, which tells its rows from this one on
+abbrev pub Tells : Option RunsLeft → ℕ → List Bool → Type 0
+Tells None from rows = ⊥
+Tells (Some walk) from rows = TellsFrom walk.runs from rows
+
+-- the walk has so many words to look at
+abbrev pub present_words : Option RunsLeft → ℕ
+present_words None = 0
+present_words (Some walk) = walk.words

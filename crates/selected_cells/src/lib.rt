@@ -7,14 +7,16 @@
 mod cells;
 mod laws;
 mod listed;
+mod open_part;
+mod opened;
 mod part_rows;
 mod present;
 mod row_blocks;
-mod selected;
+mod spans;
 
-pub use laws::the_rows_of_blocks;
+pub use laws::{the_reads_of_blocks, the_rows_of_blocks, the_runs_of_blocks};
+pub use opened::{SelectedPart, open_selected};
 pub use row_blocks::RowBlocks;
-pub use selected::{SelectedPart, open_selected};
 
 #[cfg(test)]
 mod sample_files;

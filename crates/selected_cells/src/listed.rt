@@ -1,4 +1,4 @@
-//! The parts that a dataset lists, and lists that grow with them.
+//! Lists, place by place, and lists that grow.
 
 ghost use Rattle.std.specs.Prelude.{◌≡◌, ◌<◌, ◌++◌, ◌∷◌, [], OnOk, Some, length, slice_get};
 
@@ -13,6 +13,14 @@ pub(crate) fn listed_part(dataset: &Dataset, place: usize) -> &PartMeta
     ensures { slice_get dataset.now.parts place ≡ Some result.now }
 {
     &dataset.parts.as_slice()[place]
+}
+
+/// The item at a place of a list.
+pub(crate) fn at<T>(list: &[T], place: usize) -> &T
+    requires { place < length list.now }
+    ensures { slice_get list.now place ≡ Some result.now }
+{
+    &list[place]
 }
 
 /// Puts an item behind those that are there.

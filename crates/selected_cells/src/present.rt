@@ -2,7 +2,7 @@
 
 ghost use Rattle.std.specs.Prelude.{◌≡◌, ◌+◌, ◌≤◌, ℕ, Bool, List, false, get_or};
 ghost use Rattle.wah_words.specs.Spelling.{words_of};
-ghost use Rattle.selected_cells.specs.Present.{TellsFrom};
+ghost use Rattle.selected_cells.specs.Present.{Tells, TellsFrom, present_words};
 
 use std::marker::Model;
 use std::sync::ledger::Ledger;
@@ -57,5 +57,22 @@ impl<'a> Present<'a> {
             self.past = past;
         }
         self.first <= row
+    }
+}
+
+/// Whether the column of an item has a value at a row; an item that has no column of its own has none.
+#[inline(always)]
+pub(crate) fn is_there<L: Ledger>(
+    present: &mut Option<Present>,
+    row: u32,
+    steps: &mut Steps<L>,
+) -> bool
+    ensures value { (from : ℕ) (rows : List Bool) → Tells present.old from rows → from ≤ row → result ≡ get_or rows row false }
+    ensures tells { (from : ℕ) (rows : List Bool) → Tells present.old from rows → from ≤ row → Tells present.new row rows }
+    ensures steps { steps.new + present_words present.new ≡ steps.old + present_words present.old }
+{
+    match present {
+        Some(present) => present.has(row, steps),
+        None => false,
     }
 }

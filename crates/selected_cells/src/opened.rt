@@ -1,10 +1,14 @@
 //! The columns that a query selects, opened in each part.
 
-ghost use Rattle.std.specs.Prelude.{◌≡◌, ◌++◌, ◌∷◌, [], ℕ, List, None, Some, IfErr, IfOk, IfSome, IsErrOf, slice_get};
+ghost use Rattle.std.specs.Prelude.{◌≡◌, ◌≢◌, ◌<◌, ◌∷◌, [], ℕ, List, Some, IfErr, IfOk, IsErrOf, IsSome, MatchOption, length, slice_get};
 ghost use Rattle.std.specs.List.{AllByRecursion};
 ghost use Rattle.fb_outside.specs.Causes.{HasCause};
 ghost use Rattle.fb_outside.specs.Files.{SameFiles};
+ghost use Rattle.fb_outside.specs.Names.{IsPath};
 ghost use Rattle.fb_outside.specs.Reads.{AddsOnly};
+ghost use Rattle.fb_types.specs.Types.{width_of};
+ghost use Rattle.fb_types.specs.declared.types.ColType.TheVariants.{Category, Text};
+ghost use Rattle.part_meta.specs.PartText.{IsPart};
 ghost use Rattle.dataset.specs.Opened.{IsDataset};
 ghost use Rattle.stages.specs.Faults.{IsRefused};
 ghost use Rattle.world.specs.World.{Partition};
@@ -18,9 +22,9 @@ ghost use Rattle.query_engine.specs.Parts.{AreParts};
 ghost use Rattle.selected_cells.specs.Damages.{IsPartDamaged, IsSelectedDamaged};
 ghost use Rattle.selected_cells.specs.Items.{FitsItem, column_of};
 ghost use Rattle.selected_cells.specs.Opened.{AreOpenIn, IsColumnOf, IsItemColumn, IsOpenedOf, mask_of};
-ghost use Rattle.selected_cells.specs.Reads.{IsOpening, IsOpeningOf};
+ghost use Rattle.selected_cells.specs.Reads.{IsOpening, IsOpeningOf, IsPartOpening};
 
-use crate::listed::{keep, listed_part};
+use crate::listed::{at, keep, listed_part};
 use column_file::ColumnRef;
 use dataset::Dataset;
 use fb_outside::Store;
@@ -62,7 +66,8 @@ pub(crate) enum ItemColumn {
     Nothing,
     /// An earlier item, at this place, is of the same column.
     Same(usize),
-    Own(SelectedColumn),
+    /// A column at this place in the schema.
+    Own(usize, SelectedColumn),
 }
 
 /// The columns of a part, one for each item.
@@ -86,8 +91,8 @@ pub(crate) fn column_of(item: PickItem) -> Option<usize>
 
 /// The first of these items that is of the column.
 fn first_of(items: &[PickItem], col: usize) -> Option<usize>
-    ensures there { IfSome result (λ place. (item : PickItem) × (slice_get items.now place ≡ Some item) × (column_of item ≡ Some col)) }
-    ensures none { result ≡ None → AllByRecursion (λ item. column_of item ≡ Some col → ⊥) items.now }
+    ensures { MatchOption result (AllByRecursion (λ item. column_of item ≢ Some col) items.now)
+        (λ place. (item : PickItem) × (slice_get items.now place ≡ Some item) × (column_of item ≡ Some col)) }
 {
     for (place, item) in items.iter().enumerate() {
         if column_of(*item) == Some(col) {
@@ -138,14 +143,17 @@ fn open_in<S: Store>(
     requires fits { AllByRecursion (FitsItem dataset.now.schema) items.now }
     ensures cause { HasCause (S.faults store.old) (S.faults store.new) (IsErrOf result AskFault.Store) }
     ensures files { SameFiles (S.files store.old) (S.files store.new) }
-    ensures stop { IfErr result (λ fault. IfDamaged fault (IsSelectedDamaged (S.files store.old) dataset.now items.now)) }
-    ensures looks { AddsOnly (IsOpening dataset.now items.now) (S.reads store.old) (S.reads store.new) }
+    ensures stop { IfErr result (λ fault. IfDamaged fault (IsPartDamaged (S.files store.old) dataset.now part.now items.now)) }
+    ensures looks { AddsOnly (IsPartOpening dataset.now.dir part.now items.now) (S.reads store.old) (S.reads store.new) }
     ensures opened { IfOk result (IsOpenedOf (S.files store.old) dataset.now.dir part.now items.now) }
+
+    // Where the files rest for a partition.
     ensures whole { IfErr result (λ fault. (p : Partition) → IsPartAt (S.files store.old) dataset.now.dir part.now p → NoDamage fault) }
 {
     let mut columns = Items::new(alloc);
-    for (place, item) in items.iter().enumerate() {
-        let column = open_item(alloc, store, dataset, part, &items[..place], *item)?;
+    for place in 0..items.len() {
+        let item = *at(items, place);
+        let column = open_item(alloc, store, dataset, part, &items[..place], item)?;
         keep(&mut columns, column)?;
     }
     Ok(columns)
@@ -165,10 +173,11 @@ fn open_item<S: Store>(
     requires fits { FitsItem dataset.now.schema item }
     ensures cause { HasCause (S.faults store.old) (S.faults store.new) (IsErrOf result AskFault.Store) }
     ensures files { SameFiles (S.files store.old) (S.files store.new) }
-    ensures stop { IfErr result (λ fault. IfDamaged fault (IsPartDamaged (S.files store.old) dataset.now part.now (before.now ++ item ∷ []))) }
-    ensures looks { AddsOnly (λ look. IfSome (column_of item) (λ col. IsOpeningOf (placed_at dataset.now.dir part.now col) look)) (S.reads store.old) (S.reads store.new) }
-    ensures none { column_of item ≡ None → S.reads store.new ≡ S.reads store.old }
+    ensures stop { IfErr result (λ fault. IfDamaged fault (IsPartDamaged (S.files store.old) dataset.now part.now (item ∷ []))) }
+    ensures looks { AddsOnly (IsPartOpening dataset.now.dir part.now (item ∷ [])) (S.reads store.old) (S.reads store.new) }
     ensures opened { IfOk result (IsItemColumn (S.files store.old) dataset.now.dir part.now before.now (column_of item)) }
+
+    // Where the files rest for a partition.
     ensures whole { IfErr result (λ fault. (p : Partition) → IsPartAt (S.files store.old) dataset.now.dir part.now p → NoDamage fault) }
 {
     let Some(col) = column_of(item) else {
@@ -177,16 +186,25 @@ fn open_item<S: Store>(
     if let Some(place) = first_of(before, col) {
         return Ok(ItemColumn::Same(place));
     }
-    let placed = PlacedColumn {
+    match open_column(alloc, store, &placed(dataset, part, col)) {
+        Ok(column) => Ok(ItemColumn::Own(col, column)),
+        Err(fault) => Err(ask_fault(alloc, dataset, part, fault)),
+    }
+}
+
+/// Where the files of a column of a part are.
+pub(crate) fn placed<'a>(dataset: &'a Dataset, part: &'a PartMeta, col: usize) -> PlacedColumn<'a>
+    requires path { IsPath dataset.now.dir }
+    requires part { IsPart part.now }
+    requires column { col < length part.now.schema }
+    ensures { result ≡ placed_at dataset.now.dir part.now col }
+{
+    PlacedColumn {
         dir: &dataset.dir,
         number: part.number,
         rows: part.rows,
         col,
-        column: &dataset.schema.columns()[col],
-    };
-    match open_column(alloc, store, &placed) {
-        Ok(column) => Ok(ItemColumn::Own(column)),
-        Err(fault) => Err(ask_fault(alloc, dataset, part, fault)),
+        column: &part.schema.columns()[col],
     }
 }
 
@@ -206,11 +224,68 @@ fn open_column<S: Store>(
     ensures whole { IfErr result (λ fault. (column : PartColumn) → HasColumn (S.files store.old) placed.now column → IsOutside fault) }
 {
     match placed.column.ty {
-        ColType::Text => Ok(SelectedColumn::Texts(placed.texts(alloc, store)?)),
-        ColType::Category => {
-            let codes = placed.numbers(alloc, store)?;
-            Ok(SelectedColumn::Words(codes, placed.words(alloc, store)?))
-        }
-        _ => Ok(SelectedColumn::Numbers(placed.numbers(alloc, store)?)),
+        ColType::Text => open_texts(alloc, store, placed),
+        ColType::Category => open_words(alloc, store, placed),
+        _ => open_numbers(alloc, store, placed),
     }
+}
+
+/// A column of whole numbers of a part.
+fn open_numbers<S: Store>(
+    alloc: Global,
+    store: &mut S,
+    placed: &PlacedColumn,
+) -> Result<SelectedColumn, EvalFault>
+    requires width { IsSome (width_of placed.now.column.ty) }
+    requires other { placed.now.column.ty ≢ Category }
+    ensures cause { HasCause (S.faults store.old) (S.faults store.new) (IsRefused result IsOfStore) }
+    ensures files { SameFiles (S.files store.old) (S.files store.new) }
+    ensures stop { IfErr result (StopsAt (S.files store.old) placed.now) }
+    ensures looks { AddsOnly (IsOpeningOf placed.now) (S.reads store.old) (S.reads store.new) }
+    ensures opened { IfOk result (IsColumnOf (S.files store.old) placed.now) }
+
+    // Where the files are those of a column.
+    ensures whole { IfErr result (λ fault. (column : PartColumn) → HasColumn (S.files store.old) placed.now column → IsOutside fault) }
+{
+    Ok(SelectedColumn::Numbers(placed.numbers(alloc, store)?))
+}
+
+/// A category of a part.
+fn open_words<S: Store>(
+    alloc: Global,
+    store: &mut S,
+    placed: &PlacedColumn,
+) -> Result<SelectedColumn, EvalFault>
+    requires { placed.now.column.ty ≡ Category }
+    ensures cause { HasCause (S.faults store.old) (S.faults store.new) (IsRefused result IsOfStore) }
+    ensures files { SameFiles (S.files store.old) (S.files store.new) }
+    ensures stop { IfErr result (StopsAt (S.files store.old) placed.now) }
+    ensures looks { AddsOnly (IsOpeningOf placed.now) (S.reads store.old) (S.reads store.new) }
+    ensures opened { IfOk result (IsColumnOf (S.files store.old) placed.now) }
+
+    // Where the files are those of a column.
+    ensures whole { IfErr result (λ fault. (column : PartColumn) → HasColumn (S.files store.old) placed.now column → IsOutside fault) }
+{
+    let codes = placed.numbers(alloc, store)?;
+    let words = placed.words(alloc, store)?;
+    Ok(SelectedColumn::Words(codes, words))
+}
+
+/// A column of texts of a part.
+fn open_texts<S: Store>(
+    alloc: Global,
+    store: &mut S,
+    placed: &PlacedColumn,
+) -> Result<SelectedColumn, EvalFault>
+    requires { placed.now.column.ty ≡ Text }
+    ensures cause { HasCause (S.faults store.old) (S.faults store.new) (IsRefused result IsOfStore) }
+    ensures files { SameFiles (S.files store.old) (S.files store.new) }
+    ensures stop { IfErr result (StopsAt (S.files store.old) placed.now) }
+    ensures looks { AddsOnly (IsOpeningOf placed.now) (S.reads store.old) (S.reads store.new) }
+    ensures opened { IfOk result (IsColumnOf (S.files store.old) placed.now) }
+
+    // Where the files are those of a column.
+    ensures whole { IfErr result (λ fault. (column : PartColumn) → HasColumn (S.files store.old) placed.now column → IsOutside fault) }
+{
+    Ok(SelectedColumn::Texts(placed.texts(alloc, store)?))
 }

@@ -5,3 +5,4 @@ pub mod LinesLemmas
 pub mod RequestLemmas
 pub mod RunLinesLemmas
 pub mod SessionLemmas
+pub mod TableLemmas

@@ -1,45 +1,75 @@
 -- What is asked for, and a call that ended before it asked for anything.
-use Rattle.std.proofs.Common.{◌≡◌, inl, inr, ℕ, Bool, true, false, List, [], Option, Some, None, refl}
+use Rattle.std.proofs.Common.{◌≡◌, inl, inr, ℕ, Bool, true, false, List, [], Option, Some, None, refl, ap, ◌∙◌}
 use Rattle.fb_outside.specs.Files.{ChangesAmong, Files}
 use Rattle.fb_outside.specs.Reads.{Look}
 use Rattle.fb_outside.specs.Streams.{ForSomeInput}
 use Rattle.fb_outside.proofs.FileLemmas.{ChangesAmong-same}
 use Rattle.fb_outside.proofs.ReadLemmas.{AddsOnly-same}
 use Rattle.command_words.specs.declared.Job.{Job}
+use Rattle.command_words.specs.declared.Job.TheVariants.{Ardea, Gen, Ibis, Session}
 use Rattle.statuses.specs.declared.Status.TheVariants.{OutOfMemory}
 use Rattle.commands.specs.Command.{Command, command_of, command_outcome}
 use Rattle.commands.specs.Looks.{IsLookOf}
 use Rattle.commands.proofs.PrintLemmas.{Replies-quiet, leaves_none, some_input, some_told}
 use Rattle.commands.proofs.QuestionLemmas.{no_steps, nothing_allowed}
-use Rattle.fastbit_tool.specs.Requests.{Asked, AskedAllowed, AskedReads, AskedRuns, AskedSteps, AskedYields, IsOfAsked, Of, OfSession, Unread, asked_of, is_session}
+use Rattle.gen_run.specs.Made.{gen_outcome}
+use Rattle.fastbit_tool.specs.Requests.{Asked, AskedAllowed, AskedReads, AskedRuns, AskedSteps, AskedYields, IsOfAsked, Of, OfSession, OfTable, Unread, asked_of, is_session, table_of}
 use Rattle.fastbit_tool.specs.Session.{CommandRuns, LineRuns, LineRunsBy, Outside, line_command}
 
 pub session_asked : (asked : Option Job) → is_session asked ≡ true → asked_of asked ≡ OfSession
-session_asked asked is = rw is refl
+session_asked None is = absurd (cc)
+session_asked (Some (Ardea load)) is = absurd (cc)
+session_asked (Some (Ibis dir task)) is = absurd (cc)
+session_asked (Some Session) is = refl
+session_asked (Some (Gen rows seed)) is = absurd (cc)
 
-pub command_asked : (asked : Option Job) → is_session asked ≡ false → asked_of asked ≡ Of (command_of asked)
-command_asked asked is = rw is refl
+pub command_asked : (asked : Option Job) → is_session asked ≡ false → table_of asked ≡ None → asked_of asked ≡ Of (command_of asked)
+command_asked None is none = refl
+command_asked (Some (Ardea load)) is none = refl
+command_asked (Some (Ibis dir task)) is none = refl
+command_asked (Some Session) is none = absurd (cc)
+command_asked (Some (Gen rows seed)) is none = absurd (cc)
+
+table_is : (asked : Asked) (rows seed n m : ℕ) → asked ≡ OfTable n m → Some (n, m) ≡ Some (rows, seed) → asked ≡ OfTable rows seed
+table_is asked rows seed n m is same = is ∙ ap (λ (o : Option (ℕ × ℕ)). by o) same
+  where
+    by : Option (ℕ × ℕ) → Asked
+    by None = OfSession
+    by (Some pair) = OfTable pair.0 pair.1
+
+pub table_asked : (asked : Option Job) (rows seed : ℕ) → table_of asked ≡ Some (rows, seed) → asked_of asked ≡ OfTable rows seed
+table_asked None rows seed is = absurd (cc)
+table_asked (Some (Ardea load)) rows seed is = absurd (cc)
+table_asked (Some (Ibis dir task)) rows seed is = absurd (cc)
+table_asked (Some Session) rows seed is = absurd (cc)
+table_asked (Some (Gen n m)) rows seed is = table_is (OfTable n m) rows seed n m refl is
 
 -- ---- memory ran out before anything was done
 
 pub quiet_prints : (asked : Asked) (left now : Option (List ℕ)) (outside : Outside) → AskedRuns asked left now outside outside OutOfMemory
 quiet_prints OfSession left now outside = Unread refl (inr refl)
+quiet_prints (OfTable rows seed) left now outside =
+    record { files = refl; reads = refl; replies = Replies-quiet (gen_outcome rows seed) OutOfMemory outside.written outside.written refl refl }
 quiet_prints (Of command) left now outside = refl
 
 pub quiet_reads : (asked : Asked) (files : Option Files) (reads : Option (List Look)) → AskedReads asked files reads reads
 quiet_reads OfSession files reads = tt
+quiet_reads (OfTable rows seed) files reads = refl
 quiet_reads (Of command) files reads = AddsOnly-same (IsLookOf command files) reads reads refl
 
 pub quiet_allowed : (asked : Asked) (files : Option Files) (reads : Option (List Look)) → AskedAllowed asked files reads reads OutOfMemory
 quiet_allowed OfSession files reads = tt
+quiet_allowed (OfTable rows seed) files reads = tt
 quiet_allowed (Of command) files reads = nothing_allowed command files reads OutOfMemory (λ e. cc)
 
 pub quiet_steps : (asked : Asked) (files : Option Files) (steps : ℕ) → AskedSteps asked files steps steps
 quiet_steps OfSession files steps = tt
+quiet_steps (OfTable rows seed) files steps = tt
 quiet_steps (Of command) files steps = no_steps command files steps
 
 pub quiet_yields : (asked : Asked) (left : Option (List ℕ)) → AskedYields asked left OutOfMemory
 quiet_yields OfSession left = tt
+quiet_yields (OfTable rows seed) left = ((λ e. cc), (λ e. cc))
 quiet_yields (Of command) left = tt
 
 pub quiet_keeps : (asked : Asked) (left : Option (List ℕ)) (files : Option Files)

@@ -3,10 +3,11 @@
 
 mod sessions;
 
-ghost use Rattle.std.specs.Prelude.{◌≡◌, ◌≢◌, true, false};
+ghost use Rattle.std.specs.Prelude.{◌≡◌, ◌≢◌, ◌≤◌, true, false, IfSome};
 ghost use Rattle.fb_outside.specs.Causes.{HasCause, Rose};
 ghost use Rattle.fb_outside.specs.Files.{ChangesAmong};
 ghost use Rattle.fb_outside.specs.Streams.{ForSomeInput, IsAtEnd};
+ghost use Rattle.command_words.specs.Valid.{IsValid};
 ghost use Rattle.command_words.specs.Words.{asked_by};
 ghost use Rattle.world.specs.World.{World};
 ghost use Rattle.world.specs.Stands.{StandsFor};
@@ -14,22 +15,23 @@ ghost use Rattle.commands.specs.Reply.{Replies, is_fault};
 ghost use Rattle.commands.specs.Effects.{LeavesAfter};
 ghost use Rattle.commands.specs.Causes.{HasCauseIn};
 ghost use Rattle.fastbit_tool.specs.Completes.{Completes};
-ghost use Rattle.fastbit_tool.specs.Requests.{AskedAllowed, AskedComesTo, AskedKeeps, AskedReads, AskedRuns, AskedSteps, AskedYields, IsOfAsked, asked_of, is_session, outcome, takes_input};
+ghost use Rattle.fastbit_tool.specs.Requests.{AskedAllowed, AskedComesTo, AskedKeeps, AskedReads, AskedRuns, AskedSteps, AskedYields, IsOfAsked, asked_of, is_session, outcome, table_of, takes_input};
 ghost use Rattle.fastbit_tool.specs.Session.{outside};
 
 use command_words::{Job, request};
 use commands::run_command;
 use fb_outside::{Sink, Source, Store};
+use gen_run::run_gen;
 pub use sessions::{MOST_SESSION_BYTES, session};
 pub use statuses::{DamageKind, LimitKind, Status};
 use std::alloc::Global;
 use std::sync::ledger::Ledger;
 use steps::Steps;
 
-/// Runs what the words ask for: one command, or a session of the commands that stand in the lines of `input`. A load
-/// reads its records from `input` or from the file that it names; all keep their files in `store` and print their replies
-/// to `out`, and the call answers how it ended. A refusal prints its one line and changes no file, but
-/// for indexes that were built before one that is refused.
+/// Runs what the words ask for: one command, a session of the commands that stand in the lines of `input`, or a table that is
+/// made from a number. A load reads its records from `input` or from the file that it names; commands keep their files in
+/// `store`, and a table that is made in a store of its own; all print their replies to `out`, and the call answers how it
+/// ended. A refusal prints its one line and changes no file, but for indexes that were built before one that is refused.
 pub fn run<I: Source, S: Store, K: Sink, L: Ledger>(
     alloc: Global,
     words: &[String],
@@ -61,7 +63,7 @@ pub fn run<I: Source, S: Store, K: Sink, L: Ledger>(
         → AskedKeeps (asked_of (asked_by words.now)) (S.files store.old) (S.files store.new) }
 
     // Each status has its cause, and what it comes to is printed. A session runs line by line, and each line keeps the
-    // clauses of its command, with the reads and the steps.
+    // clauses of its command, with the reads and the steps. A table that is made leaves store and input alone.
     ensures causes { HasCauseIn (AskedComesTo (asked_of (asked_by words.now)) (I.left input.old) (S.files store.old)) result }
     ensures prints { AskedRuns (asked_of (asked_by words.now)) (I.left input.old) (I.left input.new)
         (outside (S.files store.old) (S.reads store.old) (K.written out.old) steps.old)
@@ -83,7 +85,10 @@ pub fn run<I: Source, S: Store, K: Sink, L: Ledger>(
 {
     match request(alloc, words) {
         Ok(asked) if is_session(&asked) => session(alloc, input, store, out, steps),
-        Ok(asked) => run_command(alloc, &asked, input, store, out, steps),
+        Ok(asked) => match table_of(&asked) {
+            Some((rows, seed)) => run_gen(alloc, rows, seed, out, steps),
+            None => run_command(alloc, &asked, input, store, out, steps),
+        },
         Err(_) => Status::OutOfMemory,
     }
 }
@@ -95,11 +100,26 @@ fn is_session(asked: &Option<Job>) -> bool
     matches!(asked, Some(Job::Session))
 }
 
+/// The rows and the seed of the table that is asked for.
+fn table_of(asked: &Option<Job>) -> Option<(u32, u64)>
+    requires valid { IfSome asked.now IsValid }
+    ensures table { result ≡ table_of asked.now }
+    ensures some { IfSome result (λ table. 1 ≤ table.0) }
+    ensures few { IfSome result (λ table. table.0 ≤ 1000000) }
+{
+    match asked {
+        Some(Job::Gen { rows, seed }) => Some((*rows, *seed)),
+        _ => None,
+    }
+}
+
 #[cfg(test)]
 mod answer_tests;
 #[cfg(test)]
 mod listing_tests;
 #[cfg(test)]
 mod select_tests;
+#[cfg(test)]
+mod table_tests;
 #[cfg(test)]
 mod tests;

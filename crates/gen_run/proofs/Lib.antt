@@ -1,0 +1,5 @@
+pub mod PathLemmas
+pub mod RanLemmas
+pub mod EndLemmas
+pub mod LoadLemmas
+pub mod HitLemmas

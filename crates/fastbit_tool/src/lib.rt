@@ -123,3 +123,5 @@ mod select_tests;
 mod table_tests;
 #[cfg(test)]
 mod tests;
+#[cfg(test)]
+mod tour_tests;

@@ -5,6 +5,7 @@ ghost use Rattle.fb_outside.specs.Names.{IsFileName};
 ghost use Rattle.fb_outside.specs.Open.{without};
 
 use crate::faults::Faults;
+use crate::filling::read_full_at;
 use crate::open_files::{OpenFile, OpenFiles};
 use crate::outside::{Failed, Store, Trouble};
 use crate::writing::write_all;
@@ -14,13 +15,11 @@ use std::io::{self, ErrorKind};
 use std::marker::Model;
 use std::os::unix::fs::FileExt;
 
-/// The most bytes that a file of the system can have.
-const MOST_BYTES: u64 = (1 << 63) - 1;
-
 /// A store over the files of the runtime: pass `rt.clone()?`. A name is the file's path. A `put` makes the
 /// folders that are absent, writes a new file beside the old one, named with a `~` behind, and renames it.
-/// The eight files that were read last stay open, so that a read is one call of the system. What is asked
-/// after a length or a `put` of a name is asked of the file that has the name by then.
+/// The eight files that were read last stay open, each with the page of it that was read last, so that a read is
+/// one call of the system, or none where it is of that page. What is asked after a length or a `put` of a name is
+/// asked of the file that has the name by then.
 /// Contracts see it as the names of its open files and its count of faults, and it tells nothing of its files.
 #[derive(Drop)]
 pub struct FolderStore<F: Files> {
@@ -73,8 +72,8 @@ where
     {
         // A file that can't be read isn't put back, so the next read opens it again.
         match self.open.take(name) {
-            Some(kept) => {
-                let n = read_full_at(&kept.file, at, buf)?;
+            Some(mut kept) => {
+                let n = kept.read_at(self.alloc, at, buf)?;
                 self.open.keep(kept);
                 Ok(n)
             }
@@ -92,11 +91,17 @@ where
             Err(error) if error.kind() == ErrorKind::NotFound => return Ok(0),
             Err(error) => return Err(error),
         };
-        let n = read_full_at(&file, at, buf)?;
-        // Where there is no memory for the name, the file is closed, and the read stands.
-        if let Ok(name) = String::from_str(self.alloc, name) {
-            self.open.keep(OpenFile { name, file });
-        }
+        // Where there is no memory for the name, the file isn't kept.
+        let Ok(name) = String::from_str(self.alloc, name) else {
+            return read_full_at(&file, at, buf);
+        };
+        let mut kept = OpenFile {
+            name,
+            file,
+            page: None,
+        };
+        let n = kept.read_at(self.alloc, at, buf)?;
+        self.open.keep(kept);
         Ok(n)
     }
 }
@@ -174,24 +179,6 @@ fn file_len<F: Files>(files: &F, name: &str) -> io::Result<Option<u64>> {
         Err(error) if error.kind() == ErrorKind::NotFound => Ok(None),
         Err(error) => Err(error),
     }
-}
-
-/// Reads from `at` on until the buffer is full or the end comes, and answers how many bytes came.
-/// Each error ends it.
-fn read_full_at<T: FileExt>(file: &T, at: u64, buf: &mut [u8]) -> io::Result<usize>
-    ensures { IfOk result (λ n. n ≤ length buf.new) }
-{
-    // The system refuses to look where no file can have a byte.
-    let room = MOST_BYTES.saturating_sub(at).min(buf.len() as u64) as usize;
-    let mut filled = 0;
-    while filled < room {
-        let n = file.read_at(&mut buf[filled..room], at + filled as u64)?;
-        if n == 0 {
-            break;
-        }
-        filled += n;
-    }
-    Ok(filled)
 }
 
 /// A name that no file of the store has, since a file's name has no `~`.

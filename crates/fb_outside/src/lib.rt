@@ -4,6 +4,7 @@
 mod fail_at;
 mod faults;
 mod file_name;
+mod filling;
 mod folder_store;
 mod mem_file;
 mod mem_sink;
@@ -12,6 +13,7 @@ mod mem_store;
 mod notes;
 mod open_files;
 mod outside;
+mod page;
 mod read_note;
 mod schedule;
 mod std_sink;

@@ -1,4 +1,4 @@
-ghost use Rattle.std.specs.Prelude.{◌≡◌, ◌-◌, ◌<◌, ◌≤◌, length, IfOk, IfSome, OnOk, OnErr, map, min, take, drop, option_map, unwrap_or};
+ghost use Rattle.std.specs.Prelude.{◌≡◌, ◌<◌, length, IfSome, OnOk, OnErr, map, option_map};
 ghost use Rattle.std.specs.FinMap.{from_entries};
 ghost use Rattle.fb_outside.specs.Files.{file_at};
 ghost use Rattle.fb_outside.specs.Names.{IsFileName};
@@ -52,18 +52,4 @@ pub(crate) fn keep_file(
         }
     }
     Ok(())
-}
-
-/// Gives the bytes from `at` on that fit.
-pub(crate) fn give(bytes: &[u8], at: u64, buf: &mut [u8]) -> usize
-    ensures count { result ≡ min (length buf.old) (length bytes.now - at) }
-    ensures given { take result buf.new ≡ take (length buf.old) (drop at bytes.now) }
-{
-    if at >= bytes.len() as u64 {
-        return 0;
-    }
-    let rest = &bytes[at as usize..];
-    let n = buf.len().min(rest.len());
-    buf[..n].copy_from_slice(&rest[..n]);
-    n
 }

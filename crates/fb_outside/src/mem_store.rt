@@ -7,7 +7,8 @@ ghost use Rattle.fb_outside.specs.Names.{IsFileName};
 
 use crate::fail_at::FailAt;
 use crate::file_name::FileName;
-use crate::mem_file::{MemFile, find_file, give, keep_file};
+use crate::filling::give;
+use crate::mem_file::{MemFile, find_file, keep_file};
 use crate::notes::Notes;
 use crate::outside::{Failed, Store, Trouble};
 use crate::read_note::ReadNote;

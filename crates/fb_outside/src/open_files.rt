@@ -1,17 +1,44 @@
-ghost use Rattle.std.specs.Prelude.{◌≡◌, ◌≢◌, [], All, IsNone, IfSome, string_bytes, bytes_eq};
+ghost use Rattle.std.specs.Prelude.{◌≡◌, ◌≢◌, ◌≤◌, [], All, IsNone, IfOk, IfSome, length, string_bytes, bytes_eq};
 ghost use Rattle.std.specs.List.{position};
 ghost use Rattle.fb_outside.specs.Open.{without, KeepsLast};
 
+use crate::filling::read_full_at;
+use crate::page::{PAGE_BYTES, Page};
 use std::alloc::Global;
+use std::io;
 use std::marker::Model;
+use std::os::unix::fs::FileExt;
 
 const MOST_OPEN: usize = 8;
 
-/// A file that is open, and the name under which it was opened.
+/// A file that is open, the name under which it was opened, and the page of it that was read last.
 #[derive(Drop)]
 pub(crate) struct OpenFile<T> {
     pub(crate) name: String,
     pub(crate) file: T,
+    pub(crate) page: Option<Page>,
+}
+
+impl<T: FileExt> OpenFile<T> {
+    /// Reads from `at` on, all that fits: what lies in one page from that page, which is read where it wasn't the last.
+    pub(crate) fn read_at(&mut self, alloc: Global, at: u64, buf: &mut [u8]) -> io::Result<usize>
+        ensures count { IfOk result (λ n. n ≤ length buf.new) }
+        ensures name { self.new.name ≡ self.old.name }
+    {
+        let place = (at % PAGE_BYTES as u64) as usize;
+        if buf.is_empty() || buf.len() > PAGE_BYTES - place {
+            return read_full_at(&self.file, at, buf);
+        }
+        // Where there is no memory for a page, the read does without.
+        if self.page.is_none() {
+            self.page = Page::none(alloc).ok();
+        }
+        let Some(page) = &mut self.page else {
+            return read_full_at(&self.file, at, buf);
+        };
+        page.turn_to(&self.file, at - place as u64)?;
+        Ok(page.give(place, buf))
+    }
 }
 
 /// At most eight open files, that which was used last at the end. Contracts see the list of their names.

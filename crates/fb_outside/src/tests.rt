@@ -2,6 +2,7 @@ use crate::{
     FailAt, Failed, FileName, FolderStore, MemSink, MemSource, MemStore, ReadNote, Sink, Source,
     StdSink, StdSource, Store, Trouble, file_bytes, read_whole,
 };
+use std::alloc::{AllocError, Global};
 use std::fs;
 use std::io::{self, ErrorKind, Read, Write};
 use std::process::Abort;
@@ -424,5 +425,59 @@ fn opens_a_file_again_after_a_fault(rt: HostRuntime) -> Result<(), Fail> {
     fs::write(&rt, name.as_str(), b"file")?;
     check_reads(&rt, &mut store, &name, &[(0, b"file"), (2, b"le")]);
     fs::remove_dir_all(&rt, "fb_outside_again")?;
+    Ok(())
+}
+
+/// So many bytes, of which neighbouring pages differ.
+fn bytes_of(alloc: Global, count: u32, first: u32) -> Result<Vec<u8>, AllocError> {
+    let mut bytes = Vec::new(alloc);
+    for place in 0..count {
+        bytes.push(((first + place / 251 + place % 251) % 256) as u8)?;
+    }
+    Ok(bytes)
+}
+
+/// What is read of a file is what stands there, within a page and across its end, once and again.
+fn check_pieces<S: Store, R: Abort + AllocGlobal>(
+    rt: &R,
+    store: &mut S,
+    name: &FileName,
+    bytes: &[u8],
+) {
+    let mut room = [0; 5000];
+    for at in [
+        0, 4, 4092, 4093, 4095, 4096, 8191, 9996, 9999, 10000, 20000, 4,
+    ] {
+        for length in [0, 1, 4, 100, 4096, 5000] {
+            let from = bytes.len().min(at);
+            let to = bytes.len().min(from + length);
+            match store.read_at(name.as_str(), at as u64, &mut room[..length]) {
+                Ok(n) => assert!(rt; room[..n] == bytes[from..to], "{length} at {at}"),
+                Err(_) => rt.panic("the outside failed"),
+            }
+        }
+    }
+}
+
+#[test]
+fn pieces_of_pages_are_read(rt: HostRuntime) -> Result<(), Fail> {
+    let _ = fs::remove_dir_all(&rt, "fb_outside_pages");
+    let mut store = FolderStore::make(rt.clone()?, rt.alloc());
+    let (a, b) = (
+        named(&rt, "fb_outside_pages/a"),
+        named(&rt, "fb_outside_pages/b"),
+    );
+    let first = bytes_of(rt.alloc(), 10000, 0)?;
+    let second = bytes_of(rt.alloc(), 9998, 100)?;
+    check_put(&rt, &mut store, &a, &first);
+    check_put(&rt, &mut store, &b, &second);
+    for _ in 0..2u8 {
+        check_pieces(&rt, &mut store, &a, &first);
+        check_pieces(&rt, &mut store, &b, &second);
+    }
+    // Of a new file the old page isn't read.
+    check_put(&rt, &mut store, &a, &second);
+    check_pieces(&rt, &mut store, &a, &second);
+    fs::remove_dir_all(&rt, "fb_outside_pages")?;
     Ok(())
 }

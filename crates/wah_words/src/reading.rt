@@ -38,11 +38,10 @@ fn number_of(bytes: &[u8]) -> (u32, &[u8])
     ensures number { result.0 ≡ number_at bytes.now }
     ensures rest { result.1.now ≡ drop 4 bytes.now }
 {
-    let (front, rest) = bytes.split_at(4);
-    (
-        u32::from_le_bytes([front[0], front[1], front[2], front[3]]),
-        rest,
-    )
+    let Some((front, rest)) = bytes.split_first_chunk::<4>() else {
+        unreachable!()
+    };
+    (u32::from_le_bytes(*front), rest)
 }
 
 /// The active word, 0 where a vector of this length has none.

@@ -1,5 +1,5 @@
 use Rattle.std.proofs.Common.{◌≤◌, ◌-◌, length}
-use Rattle.fb_outside.proofs.folder_store.read_full_at.Given as goal
+use Rattle.fb_outside.proofs.filling.read_full_at.Given as goal
 
 -- what was read is within the room, and the room within the buffer
 abbrev pub invariant-loop-filled : goal.invariant-loop-filled

@@ -5,9 +5,9 @@ use Rattle.std.specs.FinMap.{empty, get, get-empty, insert}
 use Rattle.std.specs.List.{AllByRecursion, filter, flat_map}
 use Rattle.std.specs.Ordering.{nat_cmp}
 use Rattle.std.specs.Cmp.Lexicographic.{slice_cmp}
+use Rattle.std.proofs.lemmas.List.{length-map}
 use Rattle.index_spec.specs.declared.spec.EncodingSpec.{EncodingSpec}
 use Rattle.index_spec.specs.declared.spec.Spec.{Spec}
-use Rattle.where_grammar.specs.declared.clause.Clause.{Clause}
 use Rattle.where_plan.specs.PlanHolds.{is_asked_for}
 use Rattle.generator.specs.Generated.{generated, generated_columns}
 use Rattle.world.specs.World.{Content, World, content_at, no_datasets, records_of, with_content}
@@ -15,15 +15,20 @@ use Rattle.world.specs.Effects.{Builds, Effect, Loads, after, after_build, after
 use Rattle.world.proofs.ContentLemmas.{records-extended}
 use Rattle.world.proofs.IndexLemmas.{records-built}
 use Rattle.world.proofs.MapLemmas.{get-insert_other, get-insert_same, same_or_apart}
-use Rattle.dataset.specs.Found.{Found, There, dataset_in, found_by, found_in}
+use Rattle.dataset.specs.Found.{Found, dataset_in, found_by, found_in}
 use Rattle.statuses.specs.declared.Status.{Status}
-use Rattle.statuses.specs.Outcome.{Outcome}
-use Rattle.ibis_answer.specs.Answer.{answer_text, asked_in, asked_of, between_in, between_line, counted_in, numbers_of, told}
+use Rattle.statuses.specs.Opening.{dataset_or_refusal}
+use Rattle.statuses.specs.Outcome.{◌>>=◌, Outcome}
+use Rattle.query_grammar.specs.declared.query.Query.{Query}
+use Rattle.query_grammar.specs.Language.{read_query}
+use Rattle.ibis_answer.specs.Answer.{Asking, asked_at, asking_of, between_line, bounds_in, given_in, given_of, hits_in, text_in, told}
+use Rattle.ibis_answer.specs.Query.{items_of, pick_of, query_in, query_or_refusal}
+use Rattle.selected_cells.specs.Items.{selected_cells}
 use Rattle.ibis_build.specs.Builds.{Asked, Task, ended_by, outcome_by, outcome_of_tasks, tasks_at}
 use Rattle.ibis_build.specs.Builds as build
 use Rattle.commands.specs.Command as command
 use Rattle.commands.specs.Command.{Command, command_outcome}
-use Rattle.gen_run.specs.Hits.{hits_in, hits_of, world_behind}
+use Rattle.gen_run.specs.Hits.{table_hits, world_behind}
 use Rattle.gen_run.specs.Made.{asked_by, effects_of, indexed_columns, made_commands, made_load, made_world, queries, rows_of_part, specifications, table_path}
 use Rattle.gen_run.specs.Made as made
 use Rattle.gen_run.proofs.RanLemmas.{after-append}
@@ -31,29 +36,38 @@ use Rattle.gen_run.proofs.RanLemmas.{after-append}
 -- ---- a dataset with one index more
 
 abbrev hits_by : (query : List ℕ) → Option Content → Result ℕ Status
-hits_by query content = hits_of (numbers_of counted_in (asked_of table_path query (found_by table_path content)) content)
+hits_by query content = given_of hits_in (asked_at table_path query (found_by table_path content)) content
 
-same_asked : (query : List ℕ) (content : Content) (number col : ℕ) (spec : Spec)
-    → asked_of table_path query (There (dataset_in table_path (built content number col spec))) ≡ asked_of table_path query (There (dataset_in table_path content))
-unfolding asked_of
-same_asked query content number col spec = refl
+-- what is asked, once the query's text was read
+abbrev asked_with : Result Query Status → Found → Result Asking Status
+asked_with read found = do
+  q ← read
+  dataset ← dataset_or_refusal table_path found
+  asking_of dataset (query_in dataset.schema q)
 
-same_numbers : (content : Content) (number col : ℕ) (spec : Spec) (asked : Result (Option Clause) Status)
-    → hits_of (numbers_of counted_in asked (Some (built content number col spec))) ≡ hits_of (numbers_of counted_in asked (Some content))
-same_numbers content number col spec (Ok clause) =
-    ap (λ records. Ok (length (filter (is_asked_for clause content.schema) records))) (records-built content number col spec)
-same_numbers content number col spec (Err status) = refl
+same_given : (content : Content) (number col : ℕ) (spec : Spec) (fits : Result Query Status)
+    → given_of hits_in (asking_of (dataset_in table_path (built content number col spec)) fits) (Some (built content number col spec))
+    ≡ given_of hits_in (asking_of (dataset_in table_path content) fits) (Some content)
+same_given content number col spec (Ok q) =
+    ap (λ records. Ok (length (map (selected_cells (items_of (pick_of content.schema q))) (filter (is_asked_for q.clause content.schema) records))))
+    (records-built content number col spec)
+same_given content number col spec (Err status) = refl
+
+same_read : (content : Content) (number col : ℕ) (spec : Spec) (read : Result Query Status)
+    → given_of hits_in (asked_with read (found_by table_path (Some (built content number col spec)))) (Some (built content number col spec))
+    ≡ given_of hits_in (asked_with read (found_by table_path (Some content))) (Some content)
+same_read content number col spec (Ok q) = same_given content number col spec (query_in content.schema q)
+same_read content number col spec (Err status) = refl
 
 same_hits : (query : List ℕ) (content : Content) (number col : ℕ) (spec : Spec)
     → hits_by query (Some (built content number col spec)) ≡ hits_by query (Some content)
-same_hits query content number col spec =
-    ap (λ asked. hits_of (numbers_of counted_in asked (Some (built content number col spec)))) (same_asked query content number col spec)
-    ∙ same_numbers content number col spec (asked_of table_path query (found_by table_path (Some content)))
+unfolding asked_at
+same_hits query content number col spec = same_read content number col spec (query_or_refusal (read_query query))
 
 -- ---- a world after a build
 
 build_kept : (query : List ℕ) (w : World) (path : List ℕ) (number col : ℕ) (spec : Spec) (content : Content) → content_at w path ≡ Some content
-    → (table_path ≡ path) ⊎ (table_path ≢ path) → hits_in query (with_content w path (built content number col spec)) ≡ hits_in query w
+    → (table_path ≡ path) ⊎ (table_path ≢ path) → table_hits query (with_content w path (built content number col spec)) ≡ table_hits query w
 build_kept query w path number col spec content there (inl same) =
     let now : content_at (with_content w path (built content number col spec)) table_path ≡ Some (built content number col spec) =
     ap (λ q. content_at (with_content w path (built content number col spec)) q) same ∙ get-insert_same w.datasets path (built content number col spec) in
@@ -66,17 +80,17 @@ abbrev IsBuild : Effect → Type 0
 IsBuild (Loads path schema per_part records) = ⊥
 IsBuild (Builds path number col spec) = ⊤
 
-one_kept : (query : List ℕ) (w : World) (effect : Effect) → IsBuild effect → hits_in query (after_one w effect) ≡ hits_in query w
+one_kept : (query : List ℕ) (w : World) (effect : Effect) → IsBuild effect → table_hits query (after_one w effect) ≡ table_hits query w
 one_kept query w (Loads path schema per_part records) is = absurd is
 one_kept query w (Builds path number col spec) is = by (content_at w path) refl
   where
-    by : (o : Option Content) → content_at w path ≡ o → hits_in query (after_build w path number col spec (content_at w path)) ≡ hits_in query w
-    by None there = ap (λ o. hits_in query (after_build w path number col spec o)) there
+    by : (o : Option Content) → content_at w path ≡ o → table_hits query (after_build w path number col spec (content_at w path)) ≡ table_hits query w
+    by None there = ap (λ o. table_hits query (after_build w path number col spec o)) there
     by (Some content) there =
-        ap (λ o. hits_in query (after_build w path number col spec o)) there
+        ap (λ o. table_hits query (after_build w path number col spec o)) there
         ∙ build_kept query w path number col spec content there (same_or_apart table_path path)
 
-all_kept : (query : List ℕ) (w : World) (es : List Effect) → AllByRecursion IsBuild es → hits_in query (after w es) ≡ hits_in query w
+all_kept : (query : List ℕ) (w : World) (es : List Effect) → AllByRecursion IsBuild es → table_hits query (after w es) ≡ table_hits query w
 all_kept query w [] are = refl
 all_kept query w (e ∷ es) are = all_kept query (after_one w e) es are.1 ∙ one_kept query w e are.0
 
@@ -111,19 +125,19 @@ builds_are dir (Ok asked) content =
 command_builds : (c : Command) (w : World) → IsQuestion c → AllByRecursion IsBuild (command_outcome c [] w).effects
 command_builds (command.Loads load) w is = absurd is
 command_builds (command.Answers dir query tell) w is =
-    subst (AllByRecursion IsBuild) (sym (told_nothing (answer_text tell) (asked_in counted_in dir query w))) tt
+    subst (AllByRecursion IsBuild) (sym (told_nothing (λ text. text) (given_in (text_in tell) dir query w))) tt
 command_builds (command.Estimates dir query) w is =
-    subst (AllByRecursion IsBuild) (sym (told_nothing between_line (asked_in between_in dir query w))) tt
+    subst (AllByRecursion IsBuild) (sym (told_nothing between_line (given_in bounds_in dir query w))) tt
 command_builds (command.Builds dir text list) w is = builds_are dir (build.asked_of dir text list (found_in w dir)) (content_at w dir)
 command_builds (command.Lists dir) w is = absurd is
 command_builds command.Unknown w is = absurd is
 
 commands_keep : (query : List ℕ) (commands : List Command) (w : World) → AllByRecursion IsQuestion commands
-    → hits_in query (after w (effects_of commands w)) ≡ hits_in query w
+    → table_hits query (after w (effects_of commands w)) ≡ table_hits query w
 commands_keep query [] w are = refl
 commands_keep query (c ∷ commands) w are =
     let es = (command_outcome c [] w).effects in
-    ap (hits_in query) (after-append w es (effects_of commands (after w es))) ∙ commands_keep query commands (after w es) are.1
+    ap (table_hits query) (after-append w es (effects_of commands (after w es))) ∙ commands_keep query commands (after w es) are.1
     ∙ all_kept query w es (command_builds c w are.0)
 
 -- ---- those of a table
@@ -144,7 +158,7 @@ front P (suc n) (x ∷ xs) h = (h.0, front P n xs h.1)
 are_questions : AllByRecursion IsQuestion made_commands
 are_questions = each IsQuestion made.asked_of (λ spec. (tt, each IsQuestion asked_by (λ query. (tt, (tt, tt))) queries)) specifications
 
-pub hits_stay : (count rows seed : ℕ) (query : List ℕ) → hits_in query (world_behind count rows seed) ≡ hits_in query (made_world rows seed)
+pub hits_stay : (count rows seed : ℕ) (query : List ℕ) → table_hits query (world_behind count rows seed) ≡ table_hits query (made_world rows seed)
 hits_stay count rows seed query =
     commands_keep query (take count made_commands) (made_world rows seed) (front IsQuestion count made_commands are_questions)
 
@@ -156,18 +170,20 @@ made_content rows seed =
     get-insert_same _ table_path _
     ∙ ap (λ o. Some (extended (found_or_empty generated_columns o) rows_of_part (generated rows seed))) (get-empty (slice_cmp nat_cmp) table_path)
 
-hits_are : (content : Content) (records : _) (asked : Result (Option Clause) Status) (clause : Option Clause) → records_of content ≡ records → asked ≡ Ok clause
-    → hits_of (numbers_of counted_in asked (Some content)) ≡ Ok (length (filter (is_asked_for clause content.schema) records))
-hits_are content records asked clause are is =
-    ap (λ a. hits_of (numbers_of counted_in a (Some content))) is ∙ ap (λ rs. Ok (length (filter (is_asked_for clause content.schema) rs))) are
+hits_are : (content : Content) (records : _) (asked : Result Asking Status) (asking : Asking) → records_of content ≡ records → asked ≡ Ok asking
+    → given_of hits_in asked (Some content) ≡ Ok (length (filter (is_asked_for asking.query.clause content.schema) records))
+hits_are content records asked asking are is =
+    ap (λ a. given_of hits_in a (Some content)) is
+    ∙ ap Ok (length-map (selected_cells (items_of (pick_of content.schema asking.query))) (filter (is_asked_for asking.query.clause content.schema) (records_of content)))
+    ∙ ap (λ rs. Ok (length (filter (is_asked_for asking.query.clause content.schema) rs))) are
 
-pub hits_counted : (rows seed : ℕ) (query : List ℕ) (clause : Option Clause)
-    → asked_of table_path query (found_in (made_world rows seed) table_path) ≡ Ok clause
-    → hits_in query (made_world rows seed) ≡ Ok (length (filter (is_asked_for clause generated_columns) (generated rows seed)))
-hits_counted rows seed query clause is =
+pub hits_counted : (rows seed : ℕ) (query : List ℕ) (asking : Asking)
+    → asked_at table_path query (found_in (made_world rows seed) table_path) ≡ Ok asking
+    → table_hits query (made_world rows seed) ≡ Ok (length (filter (is_asked_for asking.query.clause generated_columns) (generated rows seed)))
+hits_counted rows seed query asking is =
     let content = extended (empty_content generated_columns) rows_of_part (generated rows seed) in
     let there = made_content rows seed in
     ap (hits_by query) there
-    ∙ hits_are content (generated rows seed) (asked_of table_path query (found_by table_path (Some content))) clause
+    ∙ hits_are content (generated rows seed) (asked_at table_path query (found_by table_path (Some content))) asking
     (records-extended (empty_content generated_columns) rows_of_part (generated rows seed) (omega arith))
-    (ap (λ o. asked_of table_path query (found_by table_path o)) (sym there) ∙ is)
+    (ap (λ o. asked_at table_path query (found_by table_path o)) (sym there) ∙ is)

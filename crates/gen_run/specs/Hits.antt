@@ -1,19 +1,14 @@
 -- How many records of the table a query asks for, before and after commands of `gen`.
-use Rattle.std.specs.Prelude.{ℕ, List, take, Option, Some, Result, Ok, Err}
+use Rattle.std.specs.Prelude.{ℕ, List, take, Result}
 use Rattle.statuses.specs.declared.Status.{Status}
 use Rattle.world.specs.Effects.{after}
 use Rattle.world.specs.World.{World}
-use Rattle.ibis_answer.specs.Answer.{asked_in, counted_in}
-use Rattle.ibis_answer.specs.declared.answering.Counted.{Counted}
+use Rattle.ibis_answer.specs.Answer.{given_in, hits_in}
 use Rattle.gen_run.specs.Made.{effects_of, made_commands, made_world, table_path}
 
-abbrev pub hits_of : Result Counted Status → Result ℕ Status
-hits_of (Ok counted) = Ok counted.hits
-hits_of (Err status) = Err status
-
 -- the number, or the refusal of the query
-abbrev pub hits_in : (query : List ℕ) → World → Result ℕ Status
-hits_in query world = hits_of (asked_in counted_in table_path query world)
+abbrev pub table_hits : (query : List ℕ) → World → Result ℕ Status
+table_hits query world = given_in hits_in table_path query world
 
 -- the world once so many of the commands ran
 abbrev pub world_behind : (count rows seed : ℕ) → World

@@ -20,6 +20,6 @@ prove-unreachable-requires g c =
     c.requires.few (rw copied at c.create-dataset.ensures.value) c.in_ok-columns.ensures.schema c.in_ok-columns.ensures.records
     c.in-Err.ensures.refuses (λ e. never _ c.in-Err.ensures.cause (ap (λ (why : AppendFault). Err why) e)) in
     elim c.match-matches.branch [
-      in-OutOfMemory w ↦ let is = w.matches-is in let not = c.if-prove.true in cc
+      | in-OutOfMemory w ↦ let is = w.matches-is in let not = c.if-prove.true in cc
       | in_default w ↦ w.in_default.not-OutOfMemory memory
     ]

@@ -182,7 +182,8 @@ module _ (tell : Bool) (dir query : List ℕ) (files : Option Files) (ready : Re
       own_text tell dir query files ready is path rows are.true_to, grows)
   shown_writes path (Err (Refused status)) h = absurd h
   shown_writes path (Err (BrokenOff status)) (tells, w) =
-      (subst (λ (s : Status). TextComes dir query tell files (Err s)) (sym tells.is)
+      (tells.found, tells.is,
+      subst (λ (s : Status). TextComes dir query tell files (Err s)) (sym tells.is)
       (damage_comes tell dir query files ready.selection ready.chosen.checked ready.chosen.hits is.selected tells.found tells.of_item),
       front_of w)
   shown_writes path (Err StoreFault) w = inr (front_of w)

@@ -96,7 +96,7 @@ Writes dir query tell files old new (Ok done) =
     (text : List ℕ) × TextComes dir query tell files (Ok text) × IsTextOfWorld dir query tell files text × Grows old new text
 Writes dir query tell files old new (Err (Refused status)) = TextComes dir query tell files (Err status) × (new ≡ old)
 Writes dir query tell files old new (Err (BrokenOff status)) =
-    TextComes dir query tell files (Err status) × WritesFront dir query tell files old new
+    (found : Damage) × (status ≡ damaged_status found) × TextComes dir query tell files (Err status) × WritesFront dir query tell files old new
 Writes dir query tell files old new (Err StoreFault) = (new ≡ old) ⊎ WritesFront dir query tell files old new
 Writes dir query tell files old new (Err SinkFault) = WritesFront dir query tell files old new
 Writes dir query tell files old new (Err OutOfMemory) = (new ≡ old) ⊎ WritesFront dir query tell files old new

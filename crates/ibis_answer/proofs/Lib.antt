@@ -10,5 +10,6 @@ pub mod RunLemmas
 pub mod RecordLemmas
 pub mod ShownLemmas
 pub mod WalkLemmas
+pub mod FoundLemmas
 pub mod ReadyLemmas
 pub mod AddLemmas

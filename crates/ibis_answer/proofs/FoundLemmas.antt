@@ -1,5 +1,5 @@
 -- What is read of selected columns is no bitmap; how many records and words of vectors the chosen rows have.
-use Rattle.std.proofs.Common.{◌≡◌, ◌≢◌, ◌+◌, ◌*◌, ◌<◌, ◌≤◌, ◌||◌, ℕ, zero, suc, Bool, true, IsTrue, List, [], ◌∷◌, ◌++◌, length, map, take, Option, Some, None, IfSome, refl, sym, ap, subst, ◌∙◌, arith}
+use Rattle.std.proofs.Common.{◌≡◌, ◌≢◌, ◌+◌, ◌*◌, ◌<◌, ◌≤◌, ◌||◌, ℕ, zero, suc, Bool, true, false, IsTrue, List, [], ◌∷◌, ◌++◌, length, map, take, Option, Some, None, IfSome, refl, sym, ap, subst, ◌∙◌, arith}
 use Rattle.std.specs.Prelude.{get_or, slice_get, slice_index_or, sum_by}
 use Rattle.std.specs.List.{All, AllByRecursion, count_by, filter, list_any, range_with_len}
 use Rattle.std.specs.Str.{bytes_eq}
@@ -37,7 +37,6 @@ use Rattle.query_grammar.specs.declared.picking.Pick.{Pick}
 use Rattle.query_grammar.specs.declared.picking.PickItem.{PickItem}
 use Rattle.query_engine.specs.Parts.{AreParts}
 use Rattle.query_engine.specs.Reads.{bitmaps_over, is_allowed_over, is_bitmap_over}
-use Rattle.query_engine.proofs.NameLemmas.{any_gives}
 use Rattle.query_engine.proofs.PartLemmas.{item_at, listed_at, meta_at, place_in_list}
 use Rattle.two_stage.specs.Placed.{placed_at}
 use Rattle.selected_cells.specs.Items.{FitsItem, column_of}
@@ -68,6 +67,17 @@ index_of dir number column look named t = record {
   named = named;
   is = (bytes_eq-Decides look.name (index_name dir number column.name)).0 (and_parts (bytes_eq look.name (index_name dir number column.name)) _ t).0;
 }
+
+either_way : {X : Type 0} (b : Bool) → (b ≡ true → X) → (b ≡ false → X) → X
+either_way true f g = f refl
+either_way false f g = g refl
+
+-- one of the items passes the test
+any_gives : {X R : Type 0} (test : X → Bool) (P : X → Type 0) (xs : List X) → AllByRecursion P xs → ((x : X) → P x → test x ≡ true → R)
+    → list_any test xs ≡ true → R
+any_gives test P [] all f h = absurd cc
+any_gives test P (x ∷ xs) all f h =
+    either_way (test x) (λ t. f x all.0 t) (λ n. any_gives test P xs all.1 f (sym (ap (λ b. b || list_any test xs) n) ∙ h))
 
 places_below : (a n : ℕ) → AllByRecursion (λ k. k < a + n) (range_with_len a n)
 places_below a zero = tt

@@ -36,6 +36,7 @@ use Rattle.dataset.proofs.SameLemmas.{same_catalog}
 use Rattle.query_engine.specs.Parts.{AreParts}
 use Rattle.query_engine.specs.Reads.{IsPlanLook, bitmaps_over, is_bitmap_over}
 use Rattle.query_engine.proofs.NameLemmas.{IsOfPart, bitmap_of_part}
+use Rattle.part_meaning.specs.Columns.{no_column}
 use Rattle.part_meaning.specs.Parts.{is_bitmap_in}
 use Rattle.statuses.specs.declared.Status.{Status}
 use Rattle.statuses.specs.declared.Status.TheVariants.{BadQuery}
@@ -193,10 +194,10 @@ module _ (m : Files) (world : World) (dir : List ℕ) (stands : Stands m world) 
       (any_at (λ (part : Partition). bytes_eq look.name (part_name dir part.number)) content.parts of_part.0 of_part.1 of_part.2
       ((bytes_eq-Decides look.name (part_name dir of_part.1.number)).1 (ap (λ (l : Look). l.name) h.whole ∙ ap (part_name dir) (sym of_part.3))))
 
-  no_column : (look : Look) (number : ℕ) → number < 4096 → IsListedLook m dir look → IsOfPart dir number look.name → ⊥
-  no_column look number less (inl whole) h =
+  of_no_column : (look : Look) (number : ℕ) → number < 4096 → IsListedLook m dir look → IsOfPart dir number look.name → ⊥
+  of_no_column look number less (inl whole) h =
       file_is_no_catalog dir dir number (Some h.column) h.kind h.called (sym h.is ∙ ap (λ (l : Look). l.name) whole)
-  no_column look number less (inr text) h =
+  of_no_column look number less (inr text) h =
       let of_part = part_of_text look text in
       let below = low of_part.0 of_part.1 of_part.2 in
       let same = same_file dir dir number text.number (Some h.column) None h.kind PartText less (subst (λ n. n < 4096) of_part.3 below) h.called refl
@@ -208,7 +209,7 @@ module _ (m : Files) (world : World) (dir : List ℕ) (stands : Stands m world) 
   no_bitmap look listed =
       none_pass (λ (part : Partition). is_bitmap_in dir content.schema part look) content.parts (λ place part there.
       not_true (is_bitmap_in dir content.schema part look) (λ is.
-      no_column look part.number (low place part there) listed (bitmap_of_part dir content.schema part look (stands.valid dir content at).catalog.schema is)))
+      of_no_column look part.number (low place part there) listed (bitmap_of_part dir content.schema part look (stands.valid dir content at).catalog.schema is)))
 
   -- the texts alone, whatever else is allowed
   texts_read : (allowed : Look → Bool) (old new : Option (List Look)) → AddsOnly (IsListedLook m dir) old new

@@ -169,23 +169,29 @@ own_text tell dir query (Some m) ready is path rows own world stands =
 
 module _ (tell : Bool) (dir query : List ℕ) (files : Option Files) (ready : Ready) (is : IsReady dir query files ready) (old new : Option (List ℕ)) where
   front_of : ShowsFront tell files ready.selection.dataset ready.selection.pick ready.chosen old new → WritesFront dir query tell files old new
-  front_of w =
-      (answer_text tell ready.chosen.hits (shown_rows ready.selection.pick w.cells) ready.chosen.checked,
-      comes_is tell dir query files ready.selection ready.chosen.checked ready.chosen.hits is.selected w.cells w.each w.number, w.front)
+  front_of w = (
+    answer_text tell ready.chosen.hits (shown_rows ready.selection.pick w.cells) ready.chosen.checked,
+    comes_is tell dir query files ready.selection ready.chosen.checked ready.chosen.hits is.selected w.cells w.each w.number,
+    w.front,
+  )
 
   pub shown_writes : {A : Type 0} (path : IsPath dir) (result : Result A Unprinted) → ShowsAll tell files ready.selection.dataset ready.selection.pick ready.chosen old new result
       → Writes dir query tell files old new result
-  shown_writes path (Ok done) (rows, are, grows) =
-      (answer_text tell ready.chosen.hits rows ready.chosen.checked,
-      subst (λ (xs : List (List Cell)). TextComes dir query tell files (Ok (answer_text tell ready.chosen.hits xs ready.chosen.checked))) (sym are.is)
-      (comes_is tell dir query files ready.selection ready.chosen.checked ready.chosen.hits is.selected are.cells are.each are.number),
-      own_text tell dir query files ready is path rows are.true_to, grows)
+  shown_writes path (Ok done) (rows, are, grows) = (
+    answer_text tell ready.chosen.hits rows ready.chosen.checked,
+    subst (λ (xs : List (List Cell)). TextComes dir query tell files (Ok (answer_text tell ready.chosen.hits xs ready.chosen.checked))) (sym are.is)
+        (comes_is tell dir query files ready.selection ready.chosen.checked ready.chosen.hits is.selected are.cells are.each are.number),
+    own_text tell dir query files ready is path rows are.true_to,
+    grows,
+  )
   shown_writes path (Err (Refused status)) h = absurd h
-  shown_writes path (Err (BrokenOff status)) (tells, w) =
-      (tells.found, tells.is,
-      subst (λ (s : Status). TextComes dir query tell files (Err s)) (sym tells.is)
-      (damage_comes tell dir query files ready.selection ready.chosen.checked ready.chosen.hits is.selected tells.found tells.of_item),
-      front_of w)
+  shown_writes path (Err (BrokenOff status)) (tells, w) = (
+    tells.found,
+    tells.is,
+    subst (λ (s : Status). TextComes dir query tell files (Err s)) (sym tells.is)
+        (damage_comes tell dir query files ready.selection ready.chosen.checked ready.chosen.hits is.selected tells.found tells.of_item),
+    front_of w,
+  )
   shown_writes path (Err StoreFault) w = inr (front_of w)
   shown_writes path (Err SinkFault) w = front_of w
   shown_writes path (Err OutOfMemory) w = inr (front_of w)
@@ -200,9 +206,12 @@ module _ (dir query : List ℕ) (files : Option Files) (selection : Selection) (
       asked_comes dir query files selection is (IsQueryDamaged files) (Shows tell) (Err (damaged_status found))
       (found, refl, inl (damaged_clause dir query files selection is after found kept h))
   damage_given tell after found kept (inr h) =
-      asked_comes dir query files selection is (IsQueryDamaged files) (Shows tell) (Err (damaged_status found))
-      (found, refl, inr (subst (λ (p : Option Pick). IsSelectedDamaged files selection.dataset (items_of p) found) is.picked
-      (subst (λ (f : Option Files). IsSelectedDamaged f selection.dataset (items_of selection.pick) found) kept h)))
+      asked_comes dir query files selection is (IsQueryDamaged files) (Shows tell) (Err (damaged_status found)) (
+        found,
+        refl,
+        inr (subst (λ (p : Option Pick). IsSelectedDamaged files selection.dataset (items_of p) found) is.picked
+            (subst (λ (f : Option Files). IsSelectedDamaged f selection.dataset (items_of selection.pick) found) kept h)),
+      )
 
   never : (after : Option Files) (fault : AskFault) → after ≡ files → ((parts : List Partition) → AreParts after selection.dataset parts → NoDamage fault)
       → (world : World) → StandsFor files world → NoDamage fault

@@ -206,9 +206,10 @@ module _ (files : Option Files) (dataset : Dataset) (plan : Plan) (chosen : Chos
     unfolding more_blanks
     padded cells each few =
         let many = many_blanks (chosen.hits - length cells) (length p.items) in
-        let less = wanted_few in
-        (all_joined (HasCells p.items) cells (blanks (chosen.hits - length cells) (length p.items)) each (blanks_have p.items (chosen.hits - length cells)),
-        length-append cells (blanks (chosen.hits - length cells) (length p.items)) ∙ omega (arith, many, few, less))
+        let less = wanted_few in (
+          all_joined (HasCells p.items) cells (blanks (chosen.hits - length cells) (length p.items)) each (blanks_have p.items (chosen.hits - length cells)),
+          length-append cells (blanks (chosen.hits - length cells) (length p.items)) ∙ omega (arith, many, few, less),
+        )
 
     -- all that are wanted were written
     pub records_shown : (cells : List (List Cell)) → AreCellsOf files dataset p.items (first_runs (wanted p.limit chosen.hits) (chosen_runs chosen)) cells

@@ -204,8 +204,10 @@ module _ (files : Option Files) (dataset : Dataset) (items : List PickItem) wher
     runs_may opened runs old mid new open_in chosen h k =
         AddsOnly-trans (IsSelectedLook dataset parts plan items) old mid new h
         (AddsOnly-weaken (IsRunLook opened (first_runs 4096 runs)) (IsSelectedLook dataset parts plan items) mid new
-        (λ look is. (chosen_allowed files dataset parts plan items opened runs look valid fits rest open_in chosen is,
-        run_look opened (first_runs 4096 runs) look open_in is)) k)
+        (λ look is. (
+          chosen_allowed files dataset parts plan items opened runs look valid fits rest open_in chosen is,
+          run_look opened (first_runs 4096 runs) look open_in is,
+        )) k)
 
 -- the runs that are left are chosen
 pub chosen_begun : (plan : Plan) (parts : List Partition) (chosen : List (List Bool)) (most : ℕ) (runs : List PartRun) → chosen ≡ rows_chosen plan parts
@@ -266,9 +268,12 @@ module _ (files : Option Files) (dataset : Dataset) (items : List PickItem) (all
       → ((cells : List (List Cell)) → Gathered held cells → rows ≡ answer_of held.pick cells)
       → (hits : ℕ) (asked : List PartRun) → all ≡ first_runs hits asked → hits ≡ rows_of_runs asked
       → (cells : List (List Cell)) × AreCellsOf files dataset items asked cells × (rows ≡ answer_of held.pick cells)
-  answer_gathered runs left held rows w none is hits asked first many =
-      (w.cells, cells_of_all files dataset items hits asked w.cells many
-      (subst (λ (xs : List PartRun). AreCellsOf files dataset items xs w.cells) first (read_all files dataset items all runs left w.cells w.read none)), is w.cells w.gathered)
+  answer_gathered runs left held rows w none is hits asked first many = (
+    w.cells,
+    cells_of_all files dataset items hits asked w.cells many
+        (subst (λ (xs : List PartRun). AreCellsOf files dataset items xs w.cells) first (read_all files dataset items all runs left w.cells w.read none)),
+    is w.cells w.gathered,
+  )
 
 -- ---- what was written of it
 
@@ -309,13 +314,15 @@ module _ (files : Option Files) (dataset : Dataset) (items : List PickItem) (all
       → WrittenTo files dataset items all runs left old new → IfDamaged fault (IsSelectedDamaged after dataset items)
       → ((parts : List Partition) → AreParts after dataset parts → NoDamage fault)
       → WritesRecords {A = A} files dataset items all old new (Err (amid_print fault))
-  block_unread A after runs left old new (ask.Damaged file kind want have) kept w h whole =
-      (record {
-        found = record { file = file; kind = kind; want = want; have = have };
-        is = refl;
-        of_item = subst (λ (f : Option Files). IsSelectedDamaged f dataset items (record { file = file; kind = kind; want = want; have = have })) kept h;
-        unsound = λ parts rest. whole parts (subst (λ (f : Option Files). AreParts f dataset parts) (sym kept) rest);
-      }, written_front runs left old new w)
+  block_unread A after runs left old new (ask.Damaged file kind want have) kept w h whole = (
+    record {
+      found = record { file = file; kind = kind; want = want; have = have };
+      is = refl;
+      of_item = subst (λ (f : Option Files). IsSelectedDamaged f dataset items (record { file = file; kind = kind; want = want; have = have })) kept h;
+      unsound = λ parts rest. whole parts (subst (λ (f : Option Files). AreParts f dataset parts) (sym kept) rest);
+    },
+    written_front runs left old new w,
+  )
   block_unread A after runs left old new ask.Store kept w h whole = written_front runs left old new w
   block_unread A after runs left old new ask.OutOfMemory kept w h whole = written_front runs left old new w
 

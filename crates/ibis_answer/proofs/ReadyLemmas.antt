@@ -75,11 +75,11 @@ module _ (tell : Bool) (dir query : List ℕ) (files : Option Files) (selection 
       asked_comes dir query files selection is (IsQueryDamaged files) (Shows tell) (Err (damaged_status found))
       (found, refl, inr (subst (λ (p : Option Pick). IsSelectedDamaged files selection.dataset (items_of p) found) is.picked h))
 
-pub stopped_writes : {A : Type 0} (tell : Bool) (dir query : List ℕ) (files : Option Files) (old : Option (List ℕ)) (stop : Unanswered) → Readies dir query files (Err stop)
+pub stopped_writes : (A : Type 0) (tell : Bool) (dir query : List ℕ) (files : Option Files) (old : Option (List ℕ)) (stop : Unanswered) → Readies dir query files (Err stop)
     → Writes {A = A} dir query tell files old old (Err (before_print stop))
-stopped_writes tell dir query files old (unanswered.Refused status) h = (h.comes tell, refl)
-stopped_writes tell dir query files old unanswered.StoreFault h = inl refl
-stopped_writes tell dir query files old unanswered.OutOfMemory h = inl refl
+stopped_writes A tell dir query files old (unanswered.Refused status) h = (h.comes tell, refl)
+stopped_writes A tell dir query files old unanswered.StoreFault h = inl refl
+stopped_writes A tell dir query files old unanswered.OutOfMemory h = inl refl
 
 -- ---- where the files stand for a world
 
@@ -87,11 +87,11 @@ quiet_front : (reply : Result (List ℕ) Status) (old : Option (List ℕ)) → I
 quiet_front (Ok text) old = GrowsInPart-none old old text refl
 quiet_front (Err status) old = refl
 
-pub stopped_world : {A : Type 0} (tell : Bool) (dir query : List ℕ) (files : Option Files) (old : Option (List ℕ)) (stop : Unanswered) → Readies dir query files (Err stop)
+pub stopped_world : (A : Type 0) (tell : Bool) (dir query : List ℕ) (files : Option Files) (old : Option (List ℕ)) (stop : Unanswered) → Readies dir query files (Err stop)
     → WritesInWorld {A = A} dir query tell files old old (Err (before_print stop))
-stopped_world tell dir query files old (unanswered.Refused status) h world stands = (h.true_to tell world stands, refl)
-stopped_world tell dir query files old unanswered.StoreFault h world stands = quiet_front (given_in (text_in tell) dir query world) old
-stopped_world tell dir query files old unanswered.OutOfMemory h world stands = quiet_front (given_in (text_in tell) dir query world) old
+stopped_world A tell dir query files old (unanswered.Refused status) h world stands = (h.true_to tell world stands, refl)
+stopped_world A tell dir query files old unanswered.StoreFault h world stands = quiet_front (given_in (text_in tell) dir query world) old
+stopped_world A tell dir query files old unanswered.OutOfMemory h world stands = quiet_front (given_in (text_in tell) dir query world) old
 
 module _ (tell : Bool) (dir query : List ℕ) (m : Files) (ready : Ready) (is : IsReady dir query (Some m) ready) (path : IsPath dir) (world : World) (stands : Stands m world) where
   -- the text over the world's records

@@ -17,13 +17,13 @@ pub returns-in_err-ready-clause-writes : goal.returns-in_err-ready-clause-writes
 returns-in_err-ready-clause-writes g c =
     let given = err_from_is_err_and c.from_residual.result c.from_residual.ensures.1 in
     rw (given.1, given.2)
-    (stopped_writes c.args.tell c.args.dir.now c.args.query.now _ (g.K.Sink.written c.args.out.now) _ c.in_err-ready.ensures.readies)
+    (stopped_writes (Unit {0}) c.args.tell c.args.dir.now c.args.query.now _ (g.K.Sink.written c.args.out.now) _ c.in_err-ready.ensures.readies)
 
 pub returns-in_err-ready-clause-answered : goal.returns-in_err-ready-clause-answered
 returns-in_err-ready-clause-answered g c =
     let given = err_from_is_err_and c.from_residual.result c.from_residual.ensures.1 in
     rw (given.1, given.2)
-    (stopped_world c.args.tell c.args.dir.now c.args.query.now _ (g.K.Sink.written c.args.out.now) _ c.in_err-ready.ensures.readies)
+    (stopped_world (Unit {0}) c.args.tell c.args.dir.now c.args.query.now _ (g.K.Sink.written c.args.out.now) _ c.in_err-ready.ensures.readies)
 
 -- ---- it is
 

@@ -14,16 +14,17 @@ use Rattle.world.specs.Effects.{Effect}
 use Rattle.statuses.specs.declared.Status.{Status}
 use Rattle.statuses.specs.declared.Status.TheVariants.{Done, Usage, ReadFault, StoreFault, SinkFault, OutOfMemory}
 use Rattle.statuses.specs.Lines.{line_of}
+use Rattle.statuses.specs.Opening.{damaged_status}
 use Rattle.statuses.specs.Outcome.{Outcome, refused}
-use Rattle.ibis_answer.specs.Answer.{answer_text, asked_in, between_in, between_line, counted_in, told}
+use Rattle.ibis_answer.specs.Answer.{between_line, bounds_in, given_in, text_in, told}
 use Rattle.ibis.specs.Listing.{list_outcome, list_result, listed}
 use Rattle.commands.specs.Command.{Answers, Builds, Command, Estimates, Lists, Loads, Unknown, command_of, command_of_task, command_outcome}
-use Rattle.commands.specs.Reply.{Replies, RepliesBy, is_fault}
+use Rattle.commands.specs.Reply.{Prints, Replies, RepliesBy, is_fault}
 use Rattle.commands.specs.Effects.{IsOfCommand, KeepsRefused, LeavesAfter}
-use Rattle.commands.specs.Causes.{ComesTo, HasCauseIn, Says, is_silent}
+use Rattle.commands.specs.Causes.{ByDamage, ByFault, ComesTo, CommandSays, EndsEarlyIn, HasCauseIn, is_silent}
 use Rattle.commands.specs.Order.{Yields, asks_store, takes_input}
-use Rattle.commands.specs.Runs.{Leaves, Prints, Replied, Runs, SaysSame, Stops, Unread, Unstored}
-use Rattle.commands.proofs.PrintLemmas.{Replies-prints, Replies-quiet, cause_printed, not_read, says_printed, says_silent, some_input, some_told, yields_printed}
+use Rattle.commands.specs.Runs.{Early, Leaves, Replied, Runs, SaysSame, Stops, Unread, Unstored}
+use Rattle.commands.proofs.PrintLemmas.{Replies-fault, Replies-prints, Replies-quiet, cause_printed, not_read, says_printed, says_silent, some_input, some_told, yields_printed}
 
 -- what says the same is the same reply
 pub same_says : (reply other : Outcome) → reply ≡ other → SaysSame reply other
@@ -36,6 +37,18 @@ replies_same reply other status before after same h = by (is_fault status) h
     by : (b : Bool) → RepliesBy b reply status before after → RepliesBy b other status before after
     by true part = subst (GrowsInPart before after) same.text part
     by false (is, grows) = (is ∙ same.status, subst (Grows before after) same.text grows)
+
+-- a command that ended early did so for a fault or a damaged file
+early_cause : (command : Command) (comes : Outcome → Type 0) (status : Status) (old new : Option (List ℕ)) → EndsEarlyIn command comes status old new
+    → HasCauseIn comes status
+early_cause (Loads load) comes status old new h = absurd h
+early_cause (Answers dir query tell) comes status old new (ByFault text come fault part) = inl fault
+early_cause (Answers dir query tell) comes status old new (ByDamage text found between come damaged part prints) =
+    cause_printed comes (refused (damaged_status found)) status between new damaged prints
+early_cause (Estimates dir query) comes status old new h = absurd h
+early_cause (Builds dir text list) comes status old new h = absurd h
+early_cause (Lists dir) comes status old new h = absurd h
+early_cause Unknown comes status old new h = absurd h
 
 module _ (command : Command) (left : Option (List ℕ)) (files : Option Files) (before after : Option (List ℕ)) (status : Status) where
   quiet : (status : Status) → is_fault status ≡ true → after ≡ before
@@ -60,24 +73,35 @@ module _ (command : Command) (left : Option (List ℕ)) (files : Option Files) (
   run_replies (Unread takes same is) = quiet status (ap is_fault is) same
   run_replies (Unstored asks same is) = quiet status (ap is_fault is) same
   run_replies (Stops same is) = quiet status (ap is_fault is) same
+  run_replies (Early ends world yields) =
+      record {
+        input = world.input;
+        told = world.told;
+        holds =
+            λ w h. let part = world.holds w h in
+            Replies-fault (command_outcome command world.input w) status before after part.0 part.1;
+      }
 
   pub run_cause : Runs command left files before after status → HasCauseIn (ComesTo command left files) status
   run_cause (Replied reply comes world plain prints) = cause_printed (ComesTo command left files) reply status before after comes prints
   run_cause (Unread takes same is) = inl (ap is_fault is)
   run_cause (Unstored asks same is) = inl (ap is_fault is)
   run_cause (Stops same is) = inl (ap is_fault is)
+  run_cause (Early ends world yields) = early_cause command (ComesTo command left files) status before after ends
 
-  pub run_says : Runs command left files before after status → Says (ComesTo command left files) status before after
-  run_says (Replied reply comes world plain prints) = says_printed (ComesTo command left files) reply status before after comes plain prints
-  run_says (Unread takes same is) = says_silent (ComesTo command left files) status before after (ap is_silent is) same
-  run_says (Unstored asks same is) = says_silent (ComesTo command left files) status before after (ap is_silent is) same
-  run_says (Stops same is) = says_silent (ComesTo command left files) status before after (ap is_silent is) same
+  pub run_says : Runs command left files before after status → CommandSays command left files status before after
+  run_says (Replied reply comes world plain prints) = inl (says_printed (ComesTo command left files) reply status before after comes plain prints)
+  run_says (Unread takes same is) = inl (says_silent (ComesTo command left files) status before after (ap is_silent is) same)
+  run_says (Unstored asks same is) = inl (says_silent (ComesTo command left files) status before after (ap is_silent is) same)
+  run_says (Stops same is) = inl (says_silent (ComesTo command left files) status before after (ap is_silent is) same)
+  run_says (Early ends world yields) = inr ends
 
   pub run_yields : Runs command left files before after status → Yields command left status
   run_yields (Replied reply comes world plain prints) = yields_printed command left reply.status reply.text status before after plain prints
   run_yields (Unread takes same is) = subst (Yields command left) (sym is) takes
   run_yields (Unstored asks same is) = subst (Yields command left) (sym is) asks
   run_yields (Stops same is) = subst (Yields command left) (sym is) tt
+  run_yields (Early ends world yields) = yields
 
   -- a command that takes no input isn't stopped by it
   pub run_unread : takes_input command ≡ false → Runs command left files before after status → status ≢ ReadFault
@@ -85,6 +109,8 @@ module _ (command : Command) (left : Option (List ℕ)) (files : Option Files) (
   run_unread none (Unread takes same is) e = let bad : false ≡ true = sym none ∙ takes in cc
   run_unread none (Unstored asks same is) e = let bad : StoreFault ≡ ReadFault = sym is ∙ e in cc
   run_unread none (Stops same is) e = let bad : OutOfMemory ≡ ReadFault = sym is ∙ e in cc
+  run_unread none (Early ends world yields) e =
+      let takes : takes_input command ≡ true = subst (Yields command left) e yields in let bad : false ≡ true = sym none ∙ takes in cc
 
 -- ---- commands that change no file
 
@@ -107,8 +133,8 @@ listed_none (Err status) = refl
 pub no_effects : (command : Command) (input : List ℕ) (w : World) → IsQuestion command → (command_outcome command input w).effects ≡ []
 unfolding IsQuestion
 no_effects (Loads load) input w h = absurd h
-no_effects (Answers dir query tell) input w h = told_none (answer_text tell) (asked_in counted_in dir query w)
-no_effects (Estimates dir query) input w h = told_none between_line (asked_in between_in dir query w)
+no_effects (Answers dir query tell) input w h = told_none (λ text. text) (given_in (text_in tell) dir query w)
+no_effects (Estimates dir query) input w h = told_none between_line (given_in bounds_in dir query w)
 no_effects (Builds dir text list) input w h = absurd h
 no_effects (Lists dir) input w h = listed_none (list_result dir (found_in w dir) (content_at w dir))
 no_effects Unknown input w h = refl
@@ -178,7 +204,7 @@ module _ (job : Option Job) (command : Command) (is : command_of job ≡ command
   pub call_cause : HasCauseIn (ComesTo (command_of job) left files) status
   call_cause = rw is (run_cause command left files before after status runs)
 
-  pub call_says : Says (ComesTo (command_of job) left files) status before after
+  pub call_says : CommandSays (command_of job) left files status before after
   call_says = rw is (run_says command left files before after status runs)
 
   pub call_yields : Yields (command_of job) left status

@@ -99,7 +99,8 @@ const LOAD_LOG: &[&str] = &[
 const LOG: &str =
     "host,code,bytes,path\nalpha,200,512,/index.html\nbeta,404,,/missing\nalpha,200,20480,\"/a,b.html\"\ngamma,500,17,/index.html\n";
 
-const BY_HOST: &str = "select host, count(*), sum(bytes) where code between 200 and 299 and path like \"%.html\"";
+const BY_HOST: &str =
+    "select host, count(*), sum(bytes) where code between 200 and 299 and path like \"%.html\"";
 
 /// With an index on the codes the paths of two rows are checked alone.
 const LOG_ROWS: &[Row] = &[

@@ -1,5 +1,6 @@
 -- What an estimate comes to over files, whether or not they stand for a world.
-use Rattle.std.proofs.Common.{◌≡◌, ⊤, ℕ, List, Option, Some, None, IfSome, Result, Ok, Err, refl, sym, subst}
+use Rattle.std.specs.Bool.{⊤}
+use Rattle.std.proofs.Common.{◌≡◌, ℕ, List, Option, Some, None, IfSome, Result, Ok, Err, refl, sym, subst}
 use Rattle.std.specs.Prelude.{IfOk}
 use Rattle.fb_outside.specs.Files.{Files}
 use Rattle.where_grammar.specs.declared.clause.QueryKind.{QueryKind}

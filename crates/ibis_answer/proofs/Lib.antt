@@ -9,3 +9,7 @@ pub mod BoundsLemmas
 pub mod RunLemmas
 pub mod RecordLemmas
 pub mod ShownLemmas
+pub mod WalkLemmas
+pub mod FoundLemmas
+pub mod ReadyLemmas
+pub mod AddLemmas

@@ -1,8 +1,9 @@
 -- The reads of a question and of an estimate: over every store, and where the files stand for a world.
-use Rattle.std.proofs.Common.{◌≡◌, ◌⊎◌, ◌<◌, ◌≤◌, ◌||◌, inl, inr, ℕ, suc, Bool, true, false, cond, IsTrue, List, [], ◌∷◌, ◌++◌, map, Option, Some, None, IfSome, Result, Ok, Err, option_map, refl, sym, ap, subst, ◌∙◌, arith}
+use Rattle.std.proofs.Common.{◌≡◌, ◌⊎◌, ◌<◌, ◌≤◌, ◌||◌, inl, inr, ℕ, suc, Bool, true, false, cond, IsTrue, List, [], ◌∷◌, ◌++◌, map, Option, Some, None, IfSome, Result, Ok, Err, option_map, refl, sym, ap, subst, ◌∙◌, arith, slice_index_or}
 use Rattle.std.specs.Prelude.{IsOkAnd}
 use Rattle.std.specs.List.{AllByRecursion, filter, list_any, slice_get}
 use Rattle.std.specs.Str.{bytes_eq}
+use Rattle.std.proofs.lemmas.List.{append-nil}
 use Rattle.std.proofs.lemmas.Option.{slice_get-map}
 use Rattle.std.proofs.lemmas.Slice.Eq.{bytes_eq-Decides}
 use Rattle.fb_outside.specs.Files.{Files}
@@ -35,6 +36,7 @@ use Rattle.dataset.proofs.SameLemmas.{same_catalog}
 use Rattle.query_engine.specs.Parts.{AreParts}
 use Rattle.query_engine.specs.Reads.{IsPlanLook, bitmaps_over, is_bitmap_over}
 use Rattle.query_engine.proofs.NameLemmas.{IsOfPart, bitmap_of_part}
+use Rattle.part_meaning.specs.Columns.{no_column}
 use Rattle.part_meaning.specs.Parts.{is_bitmap_in}
 use Rattle.statuses.specs.declared.Status.{Status}
 use Rattle.statuses.specs.declared.Status.TheVariants.{BadQuery}
@@ -73,11 +75,11 @@ opening_of_bounds dir query old new h =
 pub wrong : {X : Type 0} → false ≡ true → X
 wrong e = absurd (cc)
 
-or_first : (a b : Bool) → a ≡ true → (a || b) ≡ true
+pub or_first : (a b : Bool) → a ≡ true → (a || b) ≡ true
 or_first true b e = refl
 or_first false b e = absurd (cc)
 
-or_second : (a b : Bool) → b ≡ true → (a || b) ≡ true
+pub or_second : (a b : Bool) → b ≡ true → (a || b) ≡ true
 or_second true b e = refl
 or_second false b e = e
 
@@ -149,15 +151,15 @@ module _ (dir query : List ℕ) (files : Option Files) (selection : Selection) (
 
 -- ---- texts, where the files stand for a world
 
-not_true : (b : Bool) → (b ≡ true → ⊥) → b ≡ false
+pub not_true : (b : Bool) → (b ≡ true → ⊥) → b ≡ false
 not_true true wrong = absurd (wrong refl)
 not_true false wrong = refl
 
-none_pass : {X : Type 0} (test : X → Bool) (xs : List X) → ((place : ℕ) (x : X) → slice_get xs place ≡ Some x → test x ≡ false) → list_any test xs ≡ false
+pub none_pass : {X : Type 0} (test : X → Bool) (xs : List X) → ((place : ℕ) (x : X) → slice_get xs place ≡ Some x → test x ≡ false) → list_any test xs ≡ false
 none_pass test [] none = refl
 none_pass test (x ∷ xs) none = ap (λ b. b || list_any test xs) (none 0 x refl) ∙ none_pass test xs (λ place y there. none (suc place) y there)
 
-none_filtered : (test : Look → Bool) (P : Look → Type 0) (xs : List Look) → AllByRecursion P xs → ((look : Look) → P look → test look ≡ false) → filter test xs ≡ []
+pub none_filtered : (test : Look → Bool) (P : Look → Type 0) (xs : List Look) → AllByRecursion P xs → ((look : Look) → P look → test look ≡ false) → filter test xs ≡ []
 none_filtered test P [] all none = refl
 none_filtered test P (x ∷ xs) all none =
     ap (λ b. cond b (x ∷ filter test xs) (filter test xs)) (none x all.0) ∙ none_filtered test P xs all.1 none
@@ -192,10 +194,10 @@ module _ (m : Files) (world : World) (dir : List ℕ) (stands : Stands m world) 
       (any_at (λ (part : Partition). bytes_eq look.name (part_name dir part.number)) content.parts of_part.0 of_part.1 of_part.2
       ((bytes_eq-Decides look.name (part_name dir of_part.1.number)).1 (ap (λ (l : Look). l.name) h.whole ∙ ap (part_name dir) (sym of_part.3))))
 
-  no_column : (look : Look) (number : ℕ) → number < 4096 → IsListedLook m dir look → IsOfPart dir number look.name → ⊥
-  no_column look number less (inl whole) h =
+  of_no_column : (look : Look) (number : ℕ) → number < 4096 → IsListedLook m dir look → IsOfPart dir number look.name → ⊥
+  of_no_column look number less (inl whole) h =
       file_is_no_catalog dir dir number (Some h.column) h.kind h.called (sym h.is ∙ ap (λ (l : Look). l.name) whole)
-  no_column look number less (inr text) h =
+  of_no_column look number less (inr text) h =
       let of_part = part_of_text look text in
       let below = low of_part.0 of_part.1 of_part.2 in
       let same = same_file dir dir number text.number (Some h.column) None h.kind PartText less (subst (λ n. n < 4096) of_part.3 below) h.called refl
@@ -207,7 +209,7 @@ module _ (m : Files) (world : World) (dir : List ℕ) (stands : Stands m world) 
   no_bitmap look listed =
       none_pass (λ (part : Partition). is_bitmap_in dir content.schema part look) content.parts (λ place part there.
       not_true (is_bitmap_in dir content.schema part look) (λ is.
-      no_column look part.number (low place part there) listed (bitmap_of_part dir content.schema part look (stands.valid dir content at).catalog.schema is)))
+      of_no_column look part.number (low place part there) listed (bitmap_of_part dir content.schema part look (stands.valid dir content at).catalog.schema is)))
 
   -- the texts alone, whatever else is allowed
   texts_read : (allowed : Look → Bool) (old new : Option (List Look)) → AddsOnly (IsListedLook m dir) old new
@@ -286,17 +288,22 @@ module _ (allowed : Asking → List Partition → Look → Bool) (dir query : Li
 
   -- one whose plan is asked
   pub asked_reads : (files after : Option Files) (selection : Selection) (old mid new : Option (List Look)) (done more : Type 0) → (more → done) → IsPath dir
-      → (is : IsSelection dir query files selection) → after ≡ files → IfSome files (λ m. AddsOnly (IsListedLook m dir) old mid)
+      → (is : IsSelection dir query files selection) → (by_plan : Plan → List Partition → Look → Bool)
+      → ((parts : List Partition) → by_plan (plan_of selection.dataset.schema is.asked.clause) parts ≡ allowed (asking is.asked selection.dataset) parts)
+      → after ≡ files → IfSome files (λ m. AddsOnly (IsListedLook m dir) old mid)
       → ((parts : List Partition) → AreParts after selection.dataset parts
-      → AddsLooks mid new (allowed (asking is.asked selection.dataset) parts) (is_bitmap_over selection.dataset parts) (bitmaps_over selection.dataset parts selection.plan) done)
+      → AddsLooks mid new (by_plan selection.plan parts) (is_bitmap_over selection.dataset parts) (bitmaps_over selection.dataset parts selection.plan) done)
       → LooksInWorld allowed dir query files old new more
-  asked_reads None after selection old mid new done more is_done path is kept listed reads world stands = absurd stands
-  asked_reads (Some m) after selection old mid new done more is_done path is kept listed reads world stands =
+  asked_reads None after selection old mid new done more is_done path is by_plan same kept listed reads world stands = absurd stands
+  asked_reads (Some m) after selection old mid new done more is_done path is by_plan same kept listed reads world stands =
       let there = asked_in_world m world dir stands path query selection is in
       let content = there.content in
       let dataset = dataset_in dir content in
       let planned = is_plan_of content.schema is.asked.clause selection.plan there.planned in
-      let looks = reads content.parts (subst (λ (f : Option Files). AreParts f selection.dataset content.parts) (sym kept) there.parts) in
+      let own_plan = is_plan_of selection.dataset.schema is.asked.clause selection.plan is.planned in
+      let found = reads content.parts (subst (λ (f : Option Files). AreParts f selection.dataset content.parts) (sym kept) there.parts) in
+      let looks = subst (λ (may : Look → Bool). AddsLooks mid new may (is_bitmap_over selection.dataset content.parts) (bitmaps_over selection.dataset content.parts selection.plan) done)
+      (ap (λ (p : Plan). by_plan p content.parts) own_plan ∙ same content.parts) found in
       let of_dataset = subst (λ (d : Dataset). AddsLooks mid new (allowed (asking is.asked d) content.parts) (is_bitmap_over d content.parts) (bitmaps_over d content.parts selection.plan) done) there.same looks in
       let of_plan = subst (λ (p : Plan). AddsLooks mid new (allowed (asking is.asked dataset) content.parts) (is_bitmap_over dataset content.parts) (bitmaps_over dataset content.parts p) done) planned of_dataset in
       subst (λ (r : Result Asking Status). AddsGivenLooks allowed dir r (content_at world dir) old new more) (sym there.asked)
@@ -304,3 +311,33 @@ module _ (allowed : Asking → List Partition → Look → Bool) (dir query : Li
       (found_read m world dir stands content there.at allowed is.asked old mid new more listed
       (adds_done mid new (allowed (asking is.asked dataset) content.parts) (is_bitmap_over dataset content.parts)
       (bitmaps_over dataset content.parts (plan_of content.schema is.asked.clause)) done more is_done of_plan)))
+
+  -- what is read behind that has no bitmaps
+  pub more_reads : (files after : Option Files) (selection : Selection) (old mid new : Option (List Look)) (done more : Type 0) → done → IsPath dir
+      → (is : IsSelection dir query files selection) → (by_plan : Plan → List Partition → Look → Bool)
+      → ((parts : List Partition) → by_plan (plan_of selection.dataset.schema is.asked.clause) parts ≡ allowed (asking is.asked selection.dataset) parts)
+      → after ≡ files → LooksInWorld allowed dir query files old mid done
+      → ((parts : List Partition) → AreParts after selection.dataset parts
+      → AddsLooks mid new (by_plan selection.plan parts) (is_bitmap_over selection.dataset parts) [] more)
+      → LooksInWorld allowed dir query files old new more
+  more_reads None after selection old mid new done more is_done path is by_plan same kept first reads world stands = absurd stands
+  more_reads (Some m) after selection old mid new done more is_done path is by_plan same kept first reads world stands =
+      let there = asked_in_world m world dir stands path query selection is in
+      let content = there.content in
+      let dataset = dataset_in dir content in
+      let own_plan = is_plan_of selection.dataset.schema is.asked.clause selection.plan is.planned in
+      let bitmaps = bitmaps_over dataset content.parts (plan_of content.schema is.asked.clause) in
+      let may : Look → Bool = allowed (asking is.asked dataset) content.parts in
+      let either : Look → Bool = λ look. is_text_in dir content look || may look in
+      let found = reads content.parts (subst (λ (f : Option Files). AreParts f selection.dataset content.parts) (sym kept) there.parts) in
+      let looks = subst (λ (p : Look → Bool). AddsLooks mid new p (is_bitmap_over selection.dataset content.parts) [] more)
+      (ap (λ (p : Plan). by_plan p content.parts) own_plan ∙ same content.parts) found in
+      let of_dataset = subst (λ (d : Dataset). AddsLooks mid new (allowed (asking is.asked d) content.parts) (is_bitmap_over d content.parts) [] more) there.same looks in
+      let before : AddsAllowedLooks allowed dir (asking is.asked dataset) content old mid done =
+      subst (λ (c : Option Content). AddsGivenLooks allowed dir (Ok (asking is.asked dataset)) c old mid done) there.at
+      (subst (λ (r : Result Asking Status). AddsGivenLooks allowed dir r (content_at world dir) old mid done) there.asked (first world stands)) in
+      subst (λ (r : Result Asking Status). AddsGivenLooks allowed dir r (content_at world dir) old new more) (sym there.asked)
+      (subst (λ (c : Option Content). AddsGivenLooks allowed dir (Ok (asking is.asked dataset)) c old new more) (sym there.at)
+      (subst (λ (xs : List Look). AddsLooks old new either (is_bitmap_over dataset content.parts) xs more) (append-nil bitmaps)
+      (adds_joined old mid new either (is_bitmap_over dataset content.parts) bitmaps [] done more is_done before
+      (adds_weaker mid new may either (is_bitmap_over dataset content.parts) [] more (λ look t. or_second (is_text_in dir content look) (may look) t) of_dataset))))

@@ -181,6 +181,7 @@ module _ (files : Option Files) (dataset : Dataset) (plan : Plan) (chosen : Chos
           ∙ first_wanted p.limit chosen.hits first_ones other_ones e all_long)
 
       first_long : length first_ones ≡ wanted p.limit chosen.hits
+      unfolding first_ones other_ones
       first_long =
           let few = first_few in
           let others = other_few in
@@ -188,14 +189,13 @@ module _ (files : Option Files) (dataset : Dataset) (plan : Plan) (chosen : Chos
           let all = all_long in
           let left = later_count (wanted p.limit chosen.hits) (chosen_runs chosen) in
           let hits = hits_are in
-          omega (arith, few, others, rows, all, left, hits)
+          let less = wanted_few in
+          omega (arith, few, others, rows, all, left, hits, less)
         where
           first_few : length first_ones ≤ rows_of_runs runs_wanted
-          unfolding first_ones
           first_few = short_selected parts p.items runs_wanted
 
           other_few : length other_ones ≤ rows_of_runs (later_runs (wanted p.limit chosen.hits) (chosen_runs chosen))
-          unfolding other_ones
           other_few = short_selected parts p.items (later_runs (wanted p.limit chosen.hits) (chosen_runs chosen))
 
     more_blanks : (cells : List (List Cell)) → List (List Cell)
@@ -206,14 +206,15 @@ module _ (files : Option Files) (dataset : Dataset) (plan : Plan) (chosen : Chos
     unfolding more_blanks
     padded cells each few =
         let many = many_blanks (chosen.hits - length cells) (length p.items) in
-        let less = wanted_few in
-        (all_joined (HasCells p.items) cells (blanks (chosen.hits - length cells) (length p.items)) each (blanks_have p.items (chosen.hits - length cells)),
-        length-append cells (blanks (chosen.hits - length cells) (length p.items)) ∙ omega (arith, many, few, less))
+        let less = wanted_few in (
+          all_joined (HasCells p.items) cells (blanks (chosen.hits - length cells) (length p.items)) each (blanks_have p.items (chosen.hits - length cells)),
+          length-append cells (blanks (chosen.hits - length cells) (length p.items)) ∙ omega (arith, many, few, less),
+        )
 
     -- all that are wanted were written
     pub records_shown : (cells : List (List Cell)) → AreCellsOf files dataset p.items (first_runs (wanted p.limit chosen.hits) (chosen_runs chosen)) cells
         → AreShown files dataset (Some p) chosen cells
-    unfolding runs_wanted
+    unfolding runs_wanted first_ones
     records_shown cells of =
         let long : length cells ≡ wanted p.limit chosen.hits = of.number ∙ rows_wanted in
         let pad = padded cells of.each (omega (arith, long)) in
@@ -228,13 +229,12 @@ module _ (files : Option Files) (dataset : Dataset) (plan : Plan) (chosen : Chos
       where
         own_world : (parts : List Partition) (rest : AreParts files dataset parts)
             → selected_over p.items parts (first_runs (wanted p.limit chosen.hits) (chosen_runs chosen)) ≡ answer_of p (selected_over p.items parts (chosen_runs chosen))
-        unfolding first_ones runs_wanted
         own_world parts rest = own_first parts rest (first_long parts rest)
 
     -- the first of them were
     pub first_shown : (old new : Option (List ℕ)) → WritesFirst files dataset p.items (first_runs (wanted p.limit chosen.hits) (chosen_runs chosen)) old new
         → WritesShownFirst files dataset (Some p) chosen old new
-    unfolding runs_wanted
+    unfolding runs_wanted first_ones
     first_shown old new w =
         let few : length w.cells ≤ wanted p.limit chosen.hits = omega (arith, w.few, rows_wanted) in
         let pad = padded w.cells w.each few in
@@ -254,7 +254,6 @@ module _ (files : Option Files) (dataset : Dataset) (plan : Plan) (chosen : Chos
       where
         own_world : (parts : List Partition) (rest : AreParts files dataset parts)
             → selected_over p.items parts (first_runs (wanted p.limit chosen.hits) (chosen_runs chosen)) ≡ answer_of p (selected_over p.items parts (chosen_runs chosen))
-        unfolding first_ones runs_wanted
         own_world parts rest = own_first parts rest (first_long parts rest)
 
     pub columns_shown : {A : Type 0} (old new : Option (List ℕ)) (result : Result A Unprinted)
@@ -345,13 +344,13 @@ module _ (tell : Bool) (files : Option Files) (dataset : Dataset) (picked : Opti
     true_to = λ parts rest. hits_front (shown_rows picked (selected_over (items_of picked) parts (chosen_runs chosen))) old new h;
   }
 
-  pub hits_stopped : {A B : Type 0} (old new : Option (List ℕ)) (fault : Unprinted) → Puts {A = A} (hits_line chosen.hits) old new (Err fault)
+  pub hits_stopped : (A B : Type 0) (old new : Option (List ℕ)) (fault : Unprinted) → Puts {A = A} (hits_line chosen.hits) old new (Err fault)
       → ShowsAll {A = B} tell files dataset picked chosen old new (Err fault)
-  hits_stopped old new (Refused status) h = absurd h
-  hits_stopped old new (BrokenOff status) h = absurd h
-  hits_stopped old new StoreFault h = absurd h
-  hits_stopped old new SinkFault h = hits_cut old new h
-  hits_stopped old new OutOfMemory h = hits_cut old new (GrowsInPart-none old new (hits_line chosen.hits) h)
+  hits_stopped A B old new (Refused status) h = absurd h
+  hits_stopped A B old new (BrokenOff status) h = absurd h
+  hits_stopped A B old new StoreFault h = absurd h
+  hits_stopped A B old new SinkFault h = hits_cut old new h
+  hits_stopped A B old new OutOfMemory h = hits_cut old new (GrowsInPart-none old new (hits_line chosen.hits) h)
 
   -- the rows weren't
   rows_cut : (old mid new : Option (List ℕ)) → Grows old mid (hits_line chosen.hits) → WritesShownFirst files dataset picked chosen mid new
@@ -366,13 +365,13 @@ module _ (tell : Bool) (files : Option Files) (dataset : Dataset) (picked : Opti
         rows_front w.rows own.0 (shown_rows picked (selected_over (items_of picked) parts (chosen_runs chosen))) old mid new own.1 first w.front;
   }
 
-  pub rows_stopped : {A B : Type 0} (old mid new : Option (List ℕ)) (fault : Unprinted) → Grows old mid (hits_line chosen.hits)
+  pub rows_stopped : (A B : Type 0) (old mid new : Option (List ℕ)) (fault : Unprinted) → Grows old mid (hits_line chosen.hits)
       → WritesShown {A = A} files dataset picked chosen mid new (Err fault) → ShowsAll {A = B} tell files dataset picked chosen old new (Err fault)
-  rows_stopped old mid new (Refused status) first h = absurd h
-  rows_stopped old mid new (BrokenOff status) first (tells, w) = (tells, rows_cut old mid new first w)
-  rows_stopped old mid new StoreFault first w = rows_cut old mid new first w
-  rows_stopped old mid new SinkFault first w = rows_cut old mid new first w
-  rows_stopped old mid new OutOfMemory first w = rows_cut old mid new first w
+  rows_stopped A B old mid new (Refused status) first h = absurd h
+  rows_stopped A B old mid new (BrokenOff status) first (tells, w) = (tells, rows_cut old mid new first w)
+  rows_stopped A B old mid new StoreFault first w = rows_cut old mid new first w
+  rows_stopped A B old mid new SinkFault first w = rows_cut old mid new first w
+  rows_stopped A B old mid new OutOfMemory first w = rows_cut old mid new first w
 
   -- the checks weren't
   checks_cut : (rows : List (List Cell)) (old mid more new : Option (List ℕ)) → AreShown files dataset picked chosen rows → Grows old mid (hits_line chosen.hits)

@@ -84,14 +84,19 @@ BoundsOfWorld dir query files result =
 abbrev pub WritesFront : (dir query : List ℕ) → Bool → Option Files → (old new : Option (List ℕ)) → Type 0
 WritesFront dir query tell files old new = (text : List ℕ) × TextComes dir query tell files (Ok text) × GrowsInPart old new text
 
+-- where the files stand for a world the text is that of its records
+abbrev pub IsTextOfWorld : (dir query : List ℕ) → Bool → Option Files → List ℕ → Type 0
+IsTextOfWorld dir query tell files text = (world : World) → StandsFor files world → given_in (text_in tell) dir query world ≡ Ok text
+
 -- Over every store: all of what the query comes to; nothing where it is refused; a front where a damaged file was found behind it,
 -- where the outside failed or memory ran out. The output fails only where there is a text to be written. `old` and `new` are what the
 -- sink had written before and after.
 abbrev pub Writes : {A : Type 0} → (dir query : List ℕ) → Bool → Option Files → (old new : Option (List ℕ)) → Result A Unprinted → Type 0
-Writes dir query tell files old new (Ok done) = (text : List ℕ) × TextComes dir query tell files (Ok text) × Grows old new text
+Writes dir query tell files old new (Ok done) =
+    (text : List ℕ) × TextComes dir query tell files (Ok text) × IsTextOfWorld dir query tell files text × Grows old new text
 Writes dir query tell files old new (Err (Refused status)) = TextComes dir query tell files (Err status) × (new ≡ old)
 Writes dir query tell files old new (Err (BrokenOff status)) =
-    TextComes dir query tell files (Err status) × WritesFront dir query tell files old new
+    (found : Damage) × (status ≡ damaged_status found) × TextComes dir query tell files (Err status) × WritesFront dir query tell files old new
 Writes dir query tell files old new (Err StoreFault) = (new ≡ old) ⊎ WritesFront dir query tell files old new
 Writes dir query tell files old new (Err SinkFault) = WritesFront dir query tell files old new
 Writes dir query tell files old new (Err OutOfMemory) = (new ≡ old) ⊎ WritesFront dir query tell files old new

@@ -1,11 +1,12 @@
 -- What a question and an estimate read, and the steps that they take.
-use Rattle.std.specs.Prelude.{◌≡◌, ◌⊎◌, ◌<◌, ◌+◌, ◌*◌, ℕ, Bool, true, ◌||◌, List, length, Option, Some, Result, Ok, IsOkAnd, slice_get, slice_index_or, sum_by}
+use Rattle.std.specs.Prelude.{◌≡◌, ◌≢◌, ◌⊎◌, ◌<◌, ◌+◌, ◌*◌, ℕ, Bool, true, ◌||◌, List, length, Option, Some, Result, Ok, IsOkAnd, slice_get, slice_index_or, sum_by}
 use Rattle.std.specs.List.{list_any}
 use Rattle.std.specs.Str.{bytes_eq}
 use Rattle.fb_outside.specs.Files.{Files}
 use Rattle.fb_outside.specs.Reads.{AddsOnly, Look}
 use Rattle.part_meta.specs.FileNames.{catalog_name, file_name, part_name}
 use Rattle.part_meta.specs.declared.names.FileKind.{FileKind}
+use Rattle.part_meta.specs.declared.names.FileKind.TheVariants.{Index}
 use Rattle.part_meta.specs.declared.part.PartMeta.{PartMeta}
 use Rattle.part_meaning.specs.Columns.{no_column}
 use Rattle.wah_logic.specs.Logic.{groups_and_rest}
@@ -49,7 +50,7 @@ IsQueryLook dir query look = IsOkAnd (read_query query) (λ q. IsTextLook dir lo
 abbrev pub IsBoundsLook : (dir query : List ℕ) → Look → Type 0
 IsBoundsLook dir query look = IsOkAnd (read_query query) (λ q. IsTextLook dir look ⊎ IsFileLook dir (names q.clause) look)
 
--- Of a file of the column of an item, in a part that the dataset lists.
+-- Of a file of the column of an item, but for its index, in a part that the dataset lists.
 pub record IsItemLook (dataset : Dataset) (items : List PickItem) (look : Look) : Type 0 where
   pub place : ℕ
   pub part : PartMeta
@@ -60,6 +61,7 @@ pub record IsItemLook (dataset : Dataset) (items : List PickItem) (look : Look) 
   pub col : ℕ
   pub of_column : column_of picked ≡ Some col
   pub kind : FileKind
+  pub no_index : kind ≢ Index
   pub file : look.name ≡ file_name dataset.dir part.number (Some (slice_index_or part.schema col no_column).name) kind
 
 -- ---- where the files stand for a world
@@ -69,9 +71,9 @@ unfoldable pub is_text_in : List ℕ → Content → Look → Bool
 is_text_in dir content look =
     bytes_eq look.name (catalog_name dir) || list_any (λ part. bytes_eq look.name (part_name dir part.number)) content.parts
 
--- of a selected column, and of values on rows that the plan holds of
+-- of a selected column, but for its index, and of values on rows that the plan holds of
 abbrev pub IsSelectedLook : Dataset → List Partition → Plan → List PickItem → Look → Type 0
-IsSelectedLook dataset parts plan items look = is_selected_over dataset parts plan items look ≡ true
+IsSelectedLook dataset parts plan items look = (is_selected_over dataset parts plan items look ≡ true) × IsItemLook dataset items look
 
 -- for the plan, of values on candidates alone; or of a selected column, of values on rows that the plan holds of
 abbrev pub is_found_over : Dataset → List Partition → Plan → List PickItem → Look → Bool

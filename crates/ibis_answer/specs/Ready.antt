@@ -1,5 +1,5 @@
 -- What is known of an answer of which nothing is printed yet.
-use Rattle.std.specs.Prelude.{◌≡◌, ⊤, ℕ, Bool, List, Option, Result, Ok, Err}
+use Rattle.std.specs.Prelude.{◌≡◌, ⊤, ℕ, Bool, List, Option, IfSome, Result, Ok, Err}
 use Rattle.fb_outside.specs.Files.{Files}
 use Rattle.dataset.specs.Opened.{IsDataset}
 use Rattle.query_engine.specs.declared.choosing.Chosen.{Chosen}
@@ -13,13 +13,14 @@ use Rattle.ibis_answer.specs.declared.rows.AnswerRows.{AnswerRows}
 use Rattle.ibis_answer.specs.Answer.{given_in, text_in}
 use Rattle.ibis_answer.specs.Asked.{IsSelection}
 use Rattle.ibis_answer.specs.Causes.{TextComes}
-use Rattle.ibis_answer.specs.Rows.{AreChosen, AreRowsFor, words_left}
+use Rattle.ibis_answer.specs.Rows.{AreChosen, AreRowsFor, IsPickFor, words_left}
 
 -- the path has the dataset; the records that the query asks for are chosen, and what their rows are printed from is there
 pub record IsReady (dir query : List ℕ) (files : Option Files) (ready : Ready) : Type 0 where
   pub selected : IsSelection dir query files ready.selection
   pub path : ready.selection.dataset.dir ≡ dir
   pub valid : IsDataset ready.selection.dataset
+  pub pick : IfSome ready.selection.pick (IsPickFor ready.selection.dataset.schema)
   pub chosen : AreChosen files ready.selection.dataset ready.selection.plan ready.chosen
   pub rows : AreRowsFor files ready.selection.dataset ready.selection.pick ready.chosen ready.rows
 

@@ -19,7 +19,7 @@ use Rattle.selected_cells.specs.Items.{FitsItem}
 use Rattle.selected_cells.specs.Opened.{AreOpenIn}
 use Rattle.selected_cells.specs.Runs.{PartRun, rows_of_runs, runs_over, selected_over}
 use Rattle.selected_cells.specs.Walks.{words_over}
-use Rattle.selected_cells.specs.declared.selected.SelectedPart.{SelectedPart}
+use Rattle.selected_cells.specs.declared.opened.SelectedPart.{SelectedPart}
 use Rattle.select_group.specs.Answer.{answer_of}
 use Rattle.select_group.specs.Printed.{rows_text}
 use Rattle.world.specs.World.{Partition}

@@ -74,7 +74,15 @@ pub(crate) fn answer_rows<S: Store, L: Ledger>(
     if !pick.grouped && pick.order.is_empty() {
         return Ok(AnswerRows::Columns(opened));
     }
-    let rows = gathered(alloc, dataset, pick, chosen, opened.as_slice(), store, steps)?;
+    let rows = gathered(
+        alloc,
+        dataset,
+        pick,
+        chosen,
+        opened.as_slice(),
+        store,
+        steps,
+    )?;
     Ok(AnswerRows::Gathered(rows))
 }
 
@@ -129,11 +137,7 @@ fn copy_of(alloc: Global, pick: &Pick) -> Result<Pick, AllocError>
 }
 
 /// Adds records to those that are gathered.
-fn add_rows(
-    alloc: Global,
-    grouper: &mut Grouper,
-    rows: Vec<Items<Cell>>,
-) -> Result<(), AllocError>
+fn add_rows(alloc: Global, grouper: &mut Grouper, rows: Vec<Items<Cell>>) -> Result<(), AllocError>
     requires can { AllByRecursion (CanBeAdded grouper.old.pick.items) rows.items }
     requires few { grouper.old.added + length rows.items ≤ 2 ^ 32 }
     ensures pick { grouper.new.pick ≡ grouper.old.pick }

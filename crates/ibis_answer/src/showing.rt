@@ -124,7 +124,9 @@ fn show_rows<S: Store, K: Sink, L: Ledger>(
         (AnswerRows::Columns(opened), Some(pick)) => {
             let wanted = wanted(pick.limit, chosen.hits);
             let (items, opened) = (pick.items.as_slice(), opened.as_slice());
-            show_blocks(alloc, dataset, items, chosen, opened, wanted, store, out, steps)
+            show_blocks(
+                alloc, dataset, items, chosen, opened, wanted, store, out, steps,
+            )
         }
         (AnswerRows::Columns(_), None) => unreachable!(),
     }

@@ -190,11 +190,7 @@ fn the_first_refusal_is_told(rt: HostRuntime) -> Result<(), Fail> {
             "where a < 1 and z < 2 or b = 'y'",
             "error 6 query Unknown z\n",
         ),
-        (
-            "D",
-            "select a, y where z < 1",
-            "error 6 query Unknown y\n",
-        ),
+        ("D", "select a, y where z < 1", "error 6 query Unknown y\n"),
         (
             "D",
             "select a where z < 1 order by b",
@@ -215,12 +211,7 @@ fn the_first_refusal_is_told(rt: HostRuntime) -> Result<(), Fail> {
 fn numbers_of_answers_and_estimates(rt: HostRuntime) -> Result<(), Fail> {
     let mut store = store_of(&rt);
     let rows = [
-        (
-            "D",
-            "where 3 < a < 9",
-            "hits 5\nchecked 3\n",
-            "4 to 7",
-        ),
+        ("D", "where 3 < a < 9", "hits 5\nchecked 3\n", "4 to 7"),
         ("D", "where a < 4", "hits 3\nchecked 0\n", "3 to 3"),
         (
             "D",
@@ -241,12 +232,7 @@ fn numbers_of_answers_and_estimates(rt: HostRuntime) -> Result<(), Fail> {
             "hits 3\n0\n0\n0\nchecked 0\n",
             "3 to 3",
         ),
-        (
-            "N",
-            "where not (a < 5)",
-            "hits 2\nchecked 2\n",
-            "1 to 3",
-        ),
+        ("N", "where not (a < 5)", "hits 2\nchecked 2\n", "1 to 3"),
         ("N", "where a != 5", "hits 1\nchecked 2\n", "0 to 2"),
         ("N", "where exists(a)", "hits 2\nchecked 0\n", "2 to 2"),
     ];
@@ -272,11 +258,7 @@ fn rows_groups_orders_and_limits(rt: HostRuntime) -> Result<(), Fail> {
             "select a where a > 6 limit 2",
             "hits 4\n7\n8\nchecked 4\n",
         ),
-        (
-            "D",
-            "select a where a > 6 limit 0",
-            "hits 4\nchecked 4\n",
-        ),
+        ("D", "select a where a > 6 limit 0", "hits 4\nchecked 4\n"),
         (
             "D",
             "select b, a where a > 6 order by b desc, a desc limit 2",
@@ -287,11 +269,7 @@ fn rows_groups_orders_and_limits(rt: HostRuntime) -> Result<(), Fail> {
             "select b, count(*), sum(a), min(a), max(a)",
             "hits 10\n0,9,47,1,10\n1,1,8,8,8\nchecked 0\n",
         ),
-        (
-            "D",
-            "select sum(a) where a > 20",
-            "hits 0\nchecked 0\n",
-        ),
+        ("D", "select sum(a) where a > 20", "hits 0\nchecked 0\n"),
         ("N", "select a", "hits 3\n3\n\"\"\n5\nchecked 0\n"),
         (
             "N",

@@ -1,5 +1,6 @@
 use Rattle.std.proofs.Common.{refl}
 use Rattle.std.proofs.lemmas.Result.{err_from_is_err_and}
+use Rattle.query_engine.specs.Reads.{is_free_over}
 use Rattle.stages.proofs.ListLemmas.{err_not_ok}
 use Rattle.ibis_answer.specs.Looks.{bounds_steps, may_read_bounds}
 use Rattle.ibis_answer.proofs.BoundsLemmas.{bounds_given, bounds_stopped, declined_bounds}
@@ -46,7 +47,7 @@ returns-in-Ok-clause-bounded g c =
 pub returns-in-Ok-clause-allowed : goal.returns-in-Ok-clause-allowed
 returns-in-Ok-clause-allowed g c =
     asked_reads may_read_bounds c.args.dir.now c.args.query.now _ _ c.in_ok-selection.selection _ _ _ _ _ (λ done. rw c.in-Ok.is refl) c.requires.path c.in_ok-selection.ensures.selects
-    c.selected.ensures.files c.selected.ensures.listed c.bounds.ensures.reads
+    (λ plan parts. is_free_over c.in_ok-selection.selection.dataset parts plan) (λ parts. refl) c.selected.ensures.files c.selected.ensures.listed c.bounds.ensures.reads
 
 pub returns-in-Ok-clause-steps : goal.returns-in-Ok-clause-steps
 returns-in-Ok-clause-steps g c =
@@ -74,7 +75,7 @@ returns-clause-bounded g c =
 pub returns-clause-allowed : goal.returns-clause-allowed
 returns-clause-allowed g c =
     asked_reads may_read_bounds c.args.dir.now c.args.query.now _ _ c.in_ok-selection.selection _ _ _ _ _ (λ done. wrong done) c.requires.path c.in_ok-selection.ensures.selects
-    c.selected.ensures.files c.selected.ensures.listed c.bounds.ensures.reads
+    (λ plan parts. is_free_over c.in_ok-selection.selection.dataset parts plan) (λ parts. refl) c.selected.ensures.files c.selected.ensures.listed c.bounds.ensures.reads
 
 pub returns-clause-steps : goal.returns-clause-steps
 returns-clause-steps g c =

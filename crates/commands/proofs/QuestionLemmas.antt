@@ -1,15 +1,14 @@
 -- From what a question, an estimate or a listing gives to how the command ran.
-use Rattle.std.proofs.Common.{◌≡◌, ◌≢◌, ◌⊎◌, inl, inr, ℕ, Bool, List, Option, Some, None, Result, Ok, Err, is_ok, true, false, refl, sym, ap, subst, ◌∙◌, arith}
+use Rattle.std.proofs.Common.{◌≡◌, ◌≢◌, ◌⊎◌, inl, inr, ℕ, Bool, List, Option, Some, None, Result, Ok, Err, is_ok, true, false, refl, sym, ap, subst, arith}
 use Rattle.fb_outside.specs.Files.{Files}
 use Rattle.fb_outside.specs.Names.{IsPath}
 use Rattle.fb_outside.specs.Reads.{Look}
-use Rattle.fb_outside.specs.Streams.{ForSomeInput, GrowsInPart}
-use Rattle.fb_outside.proofs.ReadLemmas.{AddsOnly-same, AddsReads-same, AddsReads-weaken}
+use Rattle.fb_outside.specs.Streams.{ForSomeInput, Grows, GrowsInPart}
 use Rattle.fb_outside.proofs.StreamLemmas.{GrowsInPart-none}
+use Rattle.fb_outside.proofs.ReadLemmas.{AddsOnly-same, AddsReads-same, AddsReads-weaken}
 use Rattle.query_grammar.specs.Language.{read_query}
-use Rattle.query_grammar.specs.declared.query.Query.{Query}
 use Rattle.world.specs.World.{Content, Partition, World, content_at}
-use Rattle.world.specs.Stands.{Stands, StandsFor}
+use Rattle.world.specs.Stands.{StandsFor}
 use Rattle.dataset.specs.Found.{found_in}
 use Rattle.dataset.specs.Opened.{IsTextLook}
 use Rattle.stages.specs.Looks.{Looks}
@@ -17,125 +16,147 @@ use Rattle.stages.specs.declared.walk.Bounds.{Bounds}
 use Rattle.statuses.specs.declared.Status.{Status}
 use Rattle.statuses.specs.declared.Status.TheVariants.{Done, StoreFault, SinkFault, OutOfMemory}
 use Rattle.statuses.specs.Lines.{line_of}
-use Rattle.statuses.specs.Opening.{damaged_status}
-use Rattle.statuses.specs.Outcome.{Outcome, refused}
+use Rattle.statuses.specs.Outcome.{refused}
 use Rattle.ibis.proofs.ListingWorldLemmas.{list_is}
 use Rattle.ibis.specs.Listing.{ListComes, list_outcome, listed}
-use Rattle.ibis_answer.specs.Answer.{Asking, asked_at, between_line, bounds_in, given_in, text_in, told}
-use Rattle.ibis_answer.specs.Causes.{BoundsCome, IsFrontOf, TextComes, Writes, WritesInWorld}
+use Rattle.ibis_answer.specs.Answer.{Asking, asked_at, between_line, bounds_in, estimate_outcome, given_in, question_outcome, text_in, told}
+use Rattle.ibis_answer.specs.Causes.{BoundsCome, IsFrontOf, TextComes, WritesFront}
 use Rattle.ibis_answer.specs.Looks.{AddsGivenLooks, LooksInWorld, may_read, may_read_bounds}
-use Rattle.ibis_answer.specs.declared.unprinted.Unprinted.{Unprinted}
-use Rattle.ibis_answer.specs.declared.unprinted.Unprinted.TheVariants as unprinted
-use Rattle.ibis_answer.specs.declared.unprinted.Unprinted.TheVariants.{Refused, BrokenOff}
-use Rattle.commands.specs.Causes.{ByDamage, ByFault, ComesTo, done_with}
-use Rattle.commands.specs.Command.{Answers, Builds, Command, Estimates, Lists, Loads, Unknown, command_outcome}
+use Rattle.commands.specs.Causes.{ByFault, ByRefusal, ComesTo}
+use Rattle.commands.specs.Command.{Answers, Builds, Command, Estimates, Lists, Loads, Unknown}
 use Rattle.commands.specs.Looks.{ReadsAllowed, TakesSteps}
 use Rattle.commands.specs.Order.{Yields}
-use Rattle.commands.specs.Reply.{Prints, is_fault}
-use Rattle.commands.specs.Runs.{Early, Replied, Runs, SaysSame, Stops, Unstored}
+use Rattle.commands.specs.Reply.{Prints, Replies, is_fault}
+use Rattle.commands.specs.Runs.{Early, Pieced, Replied, Runs, SaysSame, Stops, Unstored}
 use Rattle.commands.proofs.PrintLemmas.{some_input, some_told, yields_printed}
 use Rattle.commands.proofs.Refusals.{IsRefusal-bounds, IsRefusal-list, IsRefusal-text}
 use Rattle.commands.proofs.RunLemmas.{same_says}
 
--- ---- a question and an estimate
+-- ---- a question
 
--- a command that tells of a query what is given of it, in this text
-module _ {A : Type 0} (text : A → List ℕ) (given : Query → Option Content → A) (dir query : List ℕ) (command : Command)
-    (is : (input : List ℕ) (w : World) → command_outcome command input w ≡ told text (given_in given dir query w))
-    (left : Option (List ℕ)) (files : Option Files) (before after : Option (List ℕ)) (status : Status) where
-  runs_with : (result : Result A Status) → ComesTo command left files (told text result) → ((w : World) → StandsFor files w → result ≡ given_in given dir query w)
-      → is_fault (told text result).status ≡ false → Prints (told text result).status (told text result).text before after status
-      → Runs command left files before after status
-  runs_with result comes world plain prints =
-      Replied (told text result) comes
+-- all of it was printed
+whole_replies : (reply : Result (List ℕ) Status) (before after : Option (List ℕ)) → ((text : List ℕ) × (reply ≡ Ok text) × Grows before after text)
+    → Replies (told (λ (text : List ℕ). text) reply) Done before after
+whole_replies reply before after (text, is, grows) =
+    subst (λ (r : Result (List ℕ) Status). Replies (told (λ (text : List ℕ). text) r) Done before after) (sym is) (refl, grows)
+
+-- a front of it was
+front_part : (reply : Result (List ℕ) Status) (before after : Option (List ℕ)) → IsFrontOf reply before after
+    → GrowsInPart before after (told (λ (text : List ℕ). text) reply).text
+front_part (Ok text) before after part = part
+front_part (Err status) before after same = GrowsInPart-none before after (line_of status) same
+
+ok_front : (reply : Result (List ℕ) Status) (before after : Option (List ℕ)) → ((text : List ℕ) × (reply ≡ Ok text) × GrowsInPart before after text)
+    → IsFrontOf reply before after
+ok_front reply before after (text, is, part) = subst (λ (r : Result (List ℕ) Status). IsFrontOf r before after) (sym is) part
+
+declined : (reply : Result (List ℕ) Status) (refusal : Status) (before between : Option (List ℕ)) → (reply ≡ Err refusal) × (between ≡ before)
+    → refused refusal ≡ told (λ (text : List ℕ). text) reply
+declined reply refusal before between (is, same) = ap (told (λ (text : List ℕ). text)) (sym is)
+
+module _ (dir query : List ℕ) (tell : Bool) (left : Option (List ℕ)) (files : Option Files) (before : Option (List ℕ)) where
+  comes_to : (result : Result (List ℕ) Status) → TextComes dir query tell files result
+      → ComesTo (Answers dir query tell) left files (told (λ (text : List ℕ). text) result)
+  comes_to result comes = record { result = result; comes = comes; is = refl }
+
+  pub answer_tells : (after : Option (List ℕ)) → (text : List ℕ) × TextComes dir query tell files (Ok text) × Grows before after text
+      → ((w : World) → StandsFor files w → (text : List ℕ) × (given_in (text_in tell) dir query w ≡ Ok text) × Grows before after text)
+      → Runs (Answers dir query tell) left files before after Done
+  answer_tells after (text, comes, grows) world =
+      Pieced text (comes_to (Ok text) comes)
       (record {
         input = some_input left;
         told = some_told left;
-        holds = λ w h. same_says (told text result) (command_outcome command (some_input left) w) (ap (told text) (world w h) ∙ sym (is (some_input left) w));
+        holds = λ w h. whole_replies (given_in (text_in tell) dir query w) before after (world w h);
       })
-      plain prints
+      grows refl
 
--- a front of what a world's reply says
-front_in : (reply : Result (List ℕ) Status) (old new : Option (List ℕ)) → IsFrontOf reply old new → GrowsInPart old new (told (λ text. text) reply).text
-front_in (Ok text) old new h = h
-front_in (Err status) old new h = GrowsInPart-none old new (line_of status) h
-
-module _ (dir query : List ℕ) (tell : Bool) (left : Option (List ℕ)) (files : Option Files) (before after : Option (List ℕ)) (status : Status) where
-  text_comes : (text : List ℕ) → TextComes dir query tell files (Ok text) → ComesTo (Answers dir query tell) left files (done_with text)
-  text_comes text comes = record { result = Ok text; comes = comes; is = refl }
-
-  pub answer_tells : {B : Type 0} (done : B) → Writes dir query tell files before after (Ok {T = B} {E = Unprinted} done) → status ≡ Done
-      → Runs (Answers dir query tell) left files before after status
-  answer_tells done (text, comes, world, grows) is =
-      runs_with (λ text. text) (text_in tell) dir query (Answers dir query tell) (λ input w. refl) left files before after status
-      (Ok text) (text_comes text comes) (λ w h. sym (world w h)) refl (inl (is, grows))
-
-  pub answer_declines : (A : Type 0) (mid : Option (List ℕ)) (refusal : Status) → Writes {A = A} dir query tell files before mid (Err (Refused refusal))
-      → WritesInWorld {A = A} dir query tell files before mid (Err (Refused refusal)) → Prints refusal (line_of refusal) mid after status
-      → Runs (Answers dir query tell) left files before after status
-  answer_declines A mid refusal (comes, same) world prints =
-      runs_with (λ text. text) (text_in tell) dir query (Answers dir query tell) (λ input w. refl) left files before after status
-      (Err refusal) (record { result = Err refusal; comes = comes; is = refl }) (λ w h. sym (world w h).0)
+  -- it is refused, and nothing of it was printed before
+  pub answer_declines : (between after : Option (List ℕ)) (status refusal : Status) → TextComes dir query tell files (Err refusal) × (between ≡ before)
+      → ((w : World) → StandsFor files w → (given_in (text_in tell) dir query w ≡ Err refusal) × (between ≡ before))
+      → Prints refusal (line_of refusal) between after status → Runs (Answers dir query tell) left files before after status
+  answer_declines between after status refusal (comes, same) world prints =
+      Replied (refused refusal) (comes_to (Err refusal) comes)
+      (record {
+        input = some_input left;
+        told = some_told left;
+        holds = λ w h. same_says (refused refusal) (question_outcome dir query tell w) (declined (given_in (text_in tell) dir query w) refusal before between (world w h));
+      })
       (IsRefusal-text dir query tell files refusal comes).no_fault
       (subst (λ (b : Option (List ℕ)). Prints refusal (line_of refusal) b after status) same prints)
 
-  -- behind a front of its text it told a damaged file
-  pub answer_breaks : (A : Type 0) (mid : Option (List ℕ)) (refusal : Status) → Writes {A = A} dir query tell files before mid (Err (BrokenOff refusal))
-      → WritesInWorld {A = A} dir query tell files before mid (Err (BrokenOff refusal)) → Prints refusal (line_of refusal) mid after status
-      → Runs (Answers dir query tell) left files before after status
-  answer_breaks A mid refusal (found, is, comes, (text, come, front)) world prints =
-      let told_so : Prints (damaged_status found) (line_of (damaged_status found)) mid after status =
-      subst (λ (s : Status). Prints s (line_of s) mid after status) is prints in
-      Early
-      (ByDamage text found mid (text_comes text come)
-      (record { result = Err (damaged_status found); comes = subst (λ (s : Status). TextComes dir query tell files (Err s)) is comes; is = refl }) front told_so)
-      (record { input = some_input left; told = some_told left; holds = λ w h. absurd (world w h) })
-      (yields_printed (Answers dir query tell) left (damaged_status found) (line_of (damaged_status found)) status mid after refl told_so)
+  broken : (between after : Option (List ℕ)) (status refusal : Status) → TextComes dir query tell files (Err refusal)
+      → WritesFront dir query tell files before between → ((w : World) → StandsFor files w → ⊥)
+      → Prints refusal (line_of refusal) between after status → Runs (Answers dir query tell) left files before after status
+  broken between after status refusal comes (text, done, part) never prints =
+      Early (ByRefusal text refusal between (comes_to (Ok text) done) (comes_to (Err refusal) comes) part prints)
+      (record { input = some_input left; told = some_told left; holds = λ w h. absurd (never w h) })
+      (yields_printed (Answers dir query tell) left refusal (line_of refusal) status between after
+      (IsRefusal-text dir query tell files refusal comes).no_fault prints)
 
-  ends_early : (text : List ℕ) → TextComes dir query tell files (Ok text) → is_fault status ≡ true → GrowsInPart before after text
-      → ((w : World) → StandsFor files w → GrowsInPart before after (told (λ text. text) (given_in (text_in tell) dir query w)).text)
-      → Yields (Answers dir query tell) left status → Runs (Answers dir query tell) left files before after status
-  ends_early text come fault front world yields =
-      Early (ByFault text (text_comes text come) fault front)
-      (record { input = some_input left; told = some_told left; holds = λ w h. (fault, world w h) }) yields
+  -- a damaged file was found behind a front of it
+  pub answer_broken : (between after : Option (List ℕ)) (status refusal : Status)
+      → TextComes dir query tell files (Err refusal) × WritesFront dir query tell files before between → ((w : World) → StandsFor files w → ⊥)
+      → Prints refusal (line_of refusal) between after status → Runs (Answers dir query tell) left files before after status
+  answer_broken between after status refusal (comes, front) never prints = broken between after status refusal comes front never prints
 
-  pub answer_unstored : (A : Type 0) → is_ok (read_query query) ≡ true → Writes {A = A} dir query tell files before after (Err unprinted.StoreFault)
-      → WritesInWorld {A = A} dir query tell files before after (Err unprinted.StoreFault) → status ≡ StoreFault
+  stopped : (after : Option (List ℕ)) (status : Status) → is_fault status ≡ true → Yields (Answers dir query tell) left status
+      → WritesFront dir query tell files before after → ((w : World) → StandsFor files w → IsFrontOf (given_in (text_in tell) dir query w) before after)
       → Runs (Answers dir query tell) left files before after status
-  answer_unstored A asks (inl same) world is = Unstored (record { input = some_input left; told = some_told left; holds = asks }) same is
-  answer_unstored A asks (inr (text, come, front)) world is =
-      ends_early text come (ap is_fault is) front (λ w h. front_in (given_in (text_in tell) dir query w) before after (world w h))
-      (subst (Yields (Answers dir query tell) left) (sym is) (record { input = some_input left; told = some_told left; holds = asks }))
+  stopped after status fault yields (text, comes, part) world =
+      Early (ByFault text (comes_to (Ok text) comes) fault part)
+      (record {
+        input = some_input left;
+        told = some_told left;
+        holds = λ w h. (fault, front_part (given_in (text_in tell) dir query w) before after (world w h));
+      })
+      yields
 
-  pub answer_unprinted : (A : Type 0) → Writes {A = A} dir query tell files before after (Err unprinted.SinkFault)
-      → WritesInWorld {A = A} dir query tell files before after (Err unprinted.SinkFault) → status ≡ SinkFault
-      → Runs (Answers dir query tell) left files before after status
-  answer_unprinted A (text, come, front) world is =
-      ends_early text come (ap is_fault is) front
-      (λ w h. let own = world w h in subst (λ (r : Result (List ℕ) Status). GrowsInPart before after (told (λ text. text) r).text) (sym own.1) own.2)
-      (subst (Yields (Answers dir query tell) left) (sym is) tt)
+  pub answer_unstored : (after : Option (List ℕ)) → is_ok (read_query query) ≡ true → (after ≡ before) ⊎ WritesFront dir query tell files before after
+      → ((w : World) → StandsFor files w → IsFrontOf (given_in (text_in tell) dir query w) before after)
+      → Runs (Answers dir query tell) left files before after StoreFault
+  answer_unstored after asks (inl same) world =
+      Unstored (record { input = some_input left; told = some_told left; holds = asks }) same refl
+  answer_unstored after asks (inr front) world =
+      stopped after StoreFault refl (record { input = some_input left; told = some_told left; holds = asks }) front world
 
-  pub answer_stops : (A : Type 0) → Writes {A = A} dir query tell files before after (Err unprinted.OutOfMemory)
-      → WritesInWorld {A = A} dir query tell files before after (Err unprinted.OutOfMemory) → status ≡ OutOfMemory
-      → Runs (Answers dir query tell) left files before after status
-  answer_stops A (inl same) world is = Stops same is
-  answer_stops A (inr (text, come, front)) world is =
-      ends_early text come (ap is_fault is) front (λ w h. front_in (given_in (text_in tell) dir query w) before after (world w h))
-      (subst (Yields (Answers dir query tell) left) (sym is) tt)
+  pub answer_unprinted : (after : Option (List ℕ)) → WritesFront dir query tell files before after
+      → ((w : World) → StandsFor files w → (text : List ℕ) × (given_in (text_in tell) dir query w ≡ Ok text) × GrowsInPart before after text)
+      → Runs (Answers dir query tell) left files before after SinkFault
+  answer_unprinted after front world =
+      stopped after SinkFault refl tt front (λ w h. ok_front (given_in (text_in tell) dir query w) before after (world w h))
+
+  pub answer_stops : (after : Option (List ℕ)) → (after ≡ before) ⊎ WritesFront dir query tell files before after
+      → ((w : World) → StandsFor files w → IsFrontOf (given_in (text_in tell) dir query w) before after)
+      → Runs (Answers dir query tell) left files before after OutOfMemory
+  answer_stops after (inl same) world = Stops same refl
+  answer_stops after (inr front) world = stopped after OutOfMemory refl tt front world
+
+-- ---- an estimate
 
 module _ (dir query : List ℕ) (left : Option (List ℕ)) (files : Option Files) (before after : Option (List ℕ)) (status : Status) where
-  pub estimate_tells : (bounds : Bounds) → BoundsCome dir query files (Ok bounds) → ((w : World) → StandsFor files w → Ok bounds ≡ given_in bounds_in dir query w)
+  runs_with : (result : Result Bounds Status) → BoundsCome dir query files result
+      → ((w : World) → StandsFor files w → result ≡ given_in bounds_in dir query w) → is_fault (told between_line result).status ≡ false
+      → Prints (told between_line result).status (told between_line result).text before after status → Runs (Estimates dir query) left files before after status
+  runs_with result comes world plain prints =
+      Replied (told between_line result) (record { result = result; comes = comes; is = refl })
+      (record {
+        input = some_input left;
+        told = some_told left;
+        holds = λ w h. same_says (told between_line result) (estimate_outcome dir query w) (ap (told between_line) (world w h));
+      })
+      plain prints
+
+  pub estimate_tells : (bounds : Bounds) → BoundsCome dir query files (Ok bounds)
+      → ((w : World) → StandsFor files w → Ok bounds ≡ given_in bounds_in dir query w)
       → Prints Done (between_line bounds) before after status → Runs (Estimates dir query) left files before after status
-  estimate_tells bounds comes world prints =
-      runs_with between_line bounds_in dir query (Estimates dir query) (λ input w. refl) left files before after status
-      (Ok bounds) (record { result = Ok bounds; comes = comes; is = refl }) world refl prints
+  estimate_tells bounds comes world prints = runs_with (Ok bounds) comes world refl prints
 
   pub estimate_declines : (refusal : Status) → BoundsCome dir query files (Err refusal)
       → ((w : World) → StandsFor files w → Err refusal ≡ given_in bounds_in dir query w)
       → Prints refusal (line_of refusal) before after status → Runs (Estimates dir query) left files before after status
   estimate_declines refusal comes world prints =
-      runs_with between_line bounds_in dir query (Estimates dir query) (λ input w. refl) left files before after status
-      (Err refusal) (record { result = Err refusal; comes = comes; is = refl }) world (IsRefusal-bounds dir query files refusal comes).no_fault prints
+      runs_with (Err refusal) comes world (IsRefusal-bounds dir query files refusal comes).no_fault prints
 
 pub estimate_unstored : (dir query : List ℕ) (left : Option (List ℕ)) (files : Option Files) (before : Option (List ℕ))
     → is_ok (read_query query) ≡ true → Runs (Estimates dir query) left files before before StoreFault

@@ -14,7 +14,7 @@ pub loop-row-preserved : goal.loop-row-preserved
 loop-row-preserved c =
     let row = c.row-item.result in
     let wide = wide_at c.args.place c.args.rows.now c.loop-row.row-index row c.requires c.loop-row-test.true c.row-item.is in
-    let cell = c.in_ok-copy_of.ensures ∙ get_or_read row.items c.args.place _ wide c.index.ensures Null in
+    let cell = c.in_ok-copy_of.ensures ∙ get_or_read row.items c.args.place c.index.result.now wide c.index.ensures Null in
     c.in_ok-push.ensures.items ∙ ap (λ l. l ++ c.in_ok-copy_of.field-0 ∷ []) c.loop-row.invariant
     ∙ ap (λ x. map (cell_in c.args.place) (rows_items (take c.loop-row.row-index c.args.rows.now)) ++ x ∷ []) cell
     ∙ sym (one_copied (cell_in c.args.place) c.args.rows.now c.loop-row.row-index row c.loop-row-test.true c.row-item.is)

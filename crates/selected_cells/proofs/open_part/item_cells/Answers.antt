@@ -4,13 +4,11 @@ use Rattle.fb_outside.specs.Reads.{Look}
 use Rattle.candidates.specs.Reads.{AddsAll}
 use Rattle.candidates.proofs.FaultLemmas.{if_ok}
 use Rattle.query_grammar.specs.declared.picking.PickItem.{PickItem}
-use Rattle.part_meaning.specs.Meaning.{IsPartAt}
-use Rattle.world.specs.World.{Partition}
 use Rattle.query_engine.proofs.PartLemmas.{item_at}
 use Rattle.selected_cells.specs.Cells.{rows_items}
-use Rattle.selected_cells.specs.Items.{HasItem, cell_at, column_of, item_cell, selected_cells}
+use Rattle.selected_cells.specs.Items.{HasItem, cell_at, column_of}
 use Rattle.selected_cells.specs.Opened.{IsColumnOf, IsItemColumn, mask_of}
-use Rattle.selected_cells.specs.Reads.{looks_of, looks_of_item}
+use Rattle.selected_cells.specs.Reads.{looks_of_item}
 use Rattle.selected_cells.specs.Runs.{records_between}
 use Rattle.selected_cells.specs.Walks.{IsInStep}
 use Rattle.selected_cells.specs.declared.opened.ItemColumn.{ItemColumn}
@@ -39,7 +37,7 @@ returns-in_ok-nulls-in-Nothing-clause-cells g c = λ p picked at there are.
     let opened = c.requires.opened.each c.args.place picked c.at.result.now there c.at.ensures in
     c.in_ok-nulls-in-Nothing.ensures
     ∙ null_cells (g.S.Store.files c.args.store.now) part.dataset.now.dir part.meta.now (take c.args.place part.items.now) picked c.args.rows.now
-    (records_between p.records c.args.span.first c.args.span.past) _
+    (records_between p.records c.args.span.first c.args.span.past) (length c.args.rows.now)
     (subst (λ (col : ItemColumn). IsItemColumn (g.S.Store.files c.args.store.now) part.dataset.now.dir part.meta.now (take c.args.place part.items.now) (column_of picked) col) c.in-Nothing.is opened)
     are refl
 
@@ -111,17 +109,10 @@ returns-in-Own-clause-reads g c =
 
 pub returns-in-Own-clause-once : goal.returns-in-Own-clause-once
 returns-in-Own-clause-once g c =
-    let files = g.S.Store.files c.args.store.now in
-    let reads = g.S.Store.reads c.args.store.now in
-    let now = g.S.Store.reads c.own_cells.new.store in
-    let first = c.args.span.first in
-    let past = c.args.span.past in
-    if_ok c.own_cells.result (λ cells. AddsAll files reads now (looks_of c.in-Own.column first past))
-    (λ cells. (column : ItemColumn) → slice_get c.args.part.now.columns.now c.args.place ≡ Some column → AddsAll files reads now (looks_of_item first past column))
-    (λ cells h column there.
+    if_ok c.own_cells.result _ _ (λ cells once column there.
     let is = sym c.in-Own.is ∙ same_column c.args.part.now.columns.now c.args.place c.at.result.now column c.at.ensures there in
-    subst (λ (col : ItemColumn). AddsAll files reads now (looks_of_item first past col)) is h)
-    c.own_cells.ensures.once
+    subst (λ (col : ItemColumn). AddsAll (g.S.Store.files c.args.store.now) (g.S.Store.reads c.args.store.now) (g.S.Store.reads c.own_cells.new.store)
+    (looks_of_item c.args.span.first c.args.span.past col)) is once) c.own_cells.ensures.once
 
 pub returns-in-Own-clause-step : goal.returns-in-Own-clause-step
 returns-in-Own-clause-step g c = λ column there.
@@ -130,18 +121,9 @@ returns-in-Own-clause-step g c = λ column there.
 
 pub returns-in-Own-clause-cells : goal.returns-in-Own-clause-cells
 returns-in-Own-clause-cells g c =
-    let files = g.S.Store.files c.args.store.now in
+    if_ok c.own_cells.result _ _ (λ cells said p picked at there are.
     let part = c.args.part.now in
-    let first = c.args.span.first in
-    let past = c.args.span.past in
-    if_ok c.own_cells.result
-    (λ cells. (p : Partition) → IsPartAt files part.dataset.now.dir part.meta.now p → cells.items ≡ map (λ row. cell_at row (Some c.in-Own.col)) (records_between p.records first past))
-    (λ cells. (p : Partition) (picked : PickItem) → IsPartAt files part.dataset.now.dir part.meta.now p → slice_get part.items.now c.args.place ≡ Some picked
-    → rows_items c.args.rows.now ≡ map (selected_cells (take c.args.place part.items.now)) (records_between p.records first past)
-    → cells.items ≡ map (item_cell picked) (records_between p.records first past))
-    (λ cells h p picked at there are.
     let opened = c.requires.opened.each c.args.place picked c.at.result.now there c.at.ensures in
-    let own = own_column files part.dataset.now.dir part.meta.now (take c.args.place part.items.now) (column_of picked) c.in-Own.col c.in-Own.column
-    (subst (λ (col : ItemColumn). IsItemColumn files part.dataset.now.dir part.meta.now (take c.args.place part.items.now) (column_of picked) col) c.in-Own.is opened) in
-    h p at ∙ ap (λ o. map (λ row. cell_at row o) (records_between p.records first past)) (sym own.0))
-    c.own_cells.ensures.cells
+    let own = own_column (g.S.Store.files c.args.store.now) part.dataset.now.dir part.meta.now (take c.args.place part.items.now) (column_of picked) c.in-Own.col c.in-Own.column
+    (subst (λ (col : ItemColumn). IsItemColumn (g.S.Store.files c.args.store.now) part.dataset.now.dir part.meta.now (take c.args.place part.items.now) (column_of picked) col) c.in-Own.is opened) in
+    said p at ∙ ap (λ (o : Option ℕ). map (λ row. cell_at row o) (records_between p.records c.args.span.first c.args.span.past)) (sym own.0)) c.own_cells.ensures.cells

@@ -24,7 +24,6 @@ use Rattle.ibis.specs.Listing.{ListComes, list_outcome, listed}
 use Rattle.ibis_answer.specs.Answer.{Asking, asked_at, between_line, bounds_in, given_in, text_in, told}
 use Rattle.ibis_answer.specs.Causes.{BoundsCome, IsFrontOf, TextComes, Writes, WritesInWorld}
 use Rattle.ibis_answer.specs.Looks.{AddsGivenLooks, LooksInWorld, may_read, may_read_bounds}
-use Rattle.ibis_answer.specs.declared.unprinted.Unprinted.{Unprinted}
 use Rattle.ibis_answer.specs.declared.unprinted.Unprinted.TheVariants as unprinted
 use Rattle.ibis_answer.specs.declared.unprinted.Unprinted.TheVariants.{Refused, BrokenOff}
 use Rattle.commands.specs.Causes.{ByDamage, ByFault, ComesTo, done_with}
@@ -64,7 +63,7 @@ module _ (dir query : List ℕ) (tell : Bool) (left : Option (List ℕ)) (files 
   text_comes : (text : List ℕ) → TextComes dir query tell files (Ok text) → ComesTo (Answers dir query tell) left files (done_with text)
   text_comes text comes = record { result = Ok text; comes = comes; is = refl }
 
-  pub answer_tells : {B : Type 0} (done : B) → Writes dir query tell files before after (Ok {T = B} {E = Unprinted} done) → status ≡ Done
+  pub answer_tells : {B : Type 0} (done : B) → Writes {A = B} dir query tell files before after (Ok done) → status ≡ Done
       → Runs (Answers dir query tell) left files before after status
   answer_tells done (text, comes, world, grows) is =
       runs_with (λ text. text) (text_in tell) dir query (Answers dir query tell) (λ input w. refl) left files before after status

@@ -15,4 +15,4 @@ returns-in-Ok-clause-runs g c = λ left.
 
 pub returns-in-Ok-clause-allowed : goal.returns-in-Ok-clause-allowed
 returns-in-Ok-clause-allowed g c =
-    reads_later may_read c.args.dir.now c.args.query.now _ _ _ _ _ (λ done. rw c.in-Ok.is refl) c.in-Ok.ensures.allowed
+    reads_later may_read c.args.dir.now c.args.query.now _ _ _ _ _ (λ done. refl) c.in-Ok.ensures.allowed

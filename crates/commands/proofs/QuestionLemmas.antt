@@ -63,9 +63,9 @@ module _ (dir query : List ℕ) (tell : Bool) (left : Option (List ℕ)) (files 
   text_comes : (text : List ℕ) → TextComes dir query tell files (Ok text) → ComesTo (Answers dir query tell) left files (done_with text)
   text_comes text comes = record { result = Ok text; comes = comes; is = refl }
 
-  pub answer_tells : {B : Type 0} (done : B) → Writes {A = B} dir query tell files before after (Ok done) → status ≡ Done
+  pub answer_tells : (B : Type 0) (done : B) → Writes {A = B} dir query tell files before after (Ok done) → status ≡ Done
       → Runs (Answers dir query tell) left files before after status
-  answer_tells done (text, comes, world, grows) is =
+  answer_tells B done (text, comes, world, grows) is =
       runs_with (λ text. text) (text_in tell) dir query (Answers dir query tell) (λ input w. refl) left files before after status
       (Ok text) (text_comes text comes) (λ w h. sym (world w h)) refl (inl (is, grows))
 

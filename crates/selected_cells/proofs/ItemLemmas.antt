@@ -1,8 +1,8 @@
 -- The cells of items, one item after the other.
-use Rattle.std.proofs.Common.{◌≡◌, ℕ, zero, suc, ◌+◌, ◌-◌, ◌<◌, ◌≤◌, Bool, List, [], ◌∷◌, ◌++◌, length, get_or, map, replicate, take, Option, Some, None, refl, sym, ap, subst, ◌∙◌, add-one, arith}
+use Rattle.std.proofs.Common.{◌≡◌, ℕ, zero, suc, ◌+◌, ◌-◌, ◌<◌, ◌≤◌, Bool, List, [], ◌∷◌, ◌++◌, length, get_or, map, replicate, take, drop, Option, Some, None, refl, sym, ap, subst, ◌∙◌, add-one, arith}
 use Rattle.std.specs.Prelude.{Vec, slice_get}
 use Rattle.std.specs.List.{AllByRecursion}
-use Rattle.std.proofs.lemmas.List.{length-append, length-map}
+use Rattle.std.proofs.lemmas.List.{length-append, length-drop, length-map, length-take}
 use Rattle.fb_outside.specs.Files.{Files}
 use Rattle.fb_outside.specs.Reads.{AddsOnly, Look}
 use Rattle.fb_outside.proofs.ReadLemmas.{AddsOnly-weaken}
@@ -13,10 +13,13 @@ use Rattle.query_grammar.specs.declared.picking.PickItem.{PickItem}
 use Rattle.wah_iter.specs.Walks.{RunsLeft}
 use Rattle.candidates.specs.Reads.{AddsAll}
 use Rattle.candidates.proofs.ReadLemmas.{adds_none}
+use Rattle.world.specs.World.{Partition}
+use Rattle.part_meaning.specs.Meaning.{IsPartAt}
 use Rattle.stages.proofs.ListLemmas.{taken_more}
 use Rattle.selected_cells.specs.Cells.{cell_in, put_last, rows_items}
 use Rattle.selected_cells.specs.Items.{cell_at, column_of, item_cell, selected_cells}
 use Rattle.selected_cells.specs.Opened.{IsItemColumn}
+use Rattle.selected_cells.specs.Runs.{records_between}
 use Rattle.selected_cells.specs.Reads.{IsColumnsLook, look_of, looks_of_item}
 use Rattle.selected_cells.specs.Walks.{IsInStep}
 use Rattle.selected_cells.specs.declared.opened.ItemColumn.{ItemColumn}
@@ -142,6 +145,27 @@ wider (cell ∷ cells) [] place long h = absurd (omega (arith, long))
 wider (cell ∷ cells) (row ∷ rows) place long h =
     (length-append row (cell ∷ []) ∙ ap (λ n. n + 1) h.0, wider cells rows place (omega (arith, long)) h.1)
 
-pub rows_begun : (count place : ℕ) → place ≡ 0 → AllByRecursion (λ row. length row ≡ place) (let none : List (List Cell) = replicate count [] in none)
-rows_begun zero place is = tt
-rows_begun (suc count) place is = (sym is, rows_begun count place is)
+-- rows without cells
+pub begun_wide : (count : ℕ) (rows : List (List Cell)) → rows ≡ replicate count [] → AllByRecursion (λ row. length row ≡ 0) rows
+begun_wide count rows is = subst (λ (l : List (List Cell)). AllByRecursion (λ row. length row ≡ 0) l) (sym is) (each count)
+  where
+    each : (n : ℕ) → AllByRecursion (λ (row : List Cell). length row ≡ 0) (replicate n [])
+    each zero = tt
+    each (suc n) = (refl, each n)
+
+no_cells : (records : List (List Cell)) → replicate (length records) [] ≡ map (selected_cells []) records
+no_cells [] = refl
+no_cells (r ∷ records) = ap (λ l. [] ∷ l) (no_cells records)
+
+between_long : (records : List (List Cell)) (first past : ℕ) → past ≤ length records → length (records_between records first past) ≡ past - first
+between_long records first past within =
+    let left = length-drop first records in
+    length-take (past - first) (drop first records) ∙ omega (arith, left, within)
+
+pub begun_rows : (files : Option Files) (dir : List ℕ) (meta : PartMeta) (part : Partition) (items : List PickItem) (first past : ℕ) (rows : List (List Cell))
+    → IsPartAt files dir meta part → past ≤ meta.rows → rows ≡ replicate (past - first) []
+    → rows ≡ map (selected_cells (take 0 items)) (records_between part.records first past)
+begun_rows files dir meta part items first past rows at within is =
+    let long : meta.rows ≡ length part.records = ap (λ (m : PartMeta). m.rows) at.is in
+    is ∙ ap (λ n. replicate n []) (sym (between_long part.records first past (omega (arith, within, long))))
+    ∙ no_cells (records_between part.records first past)

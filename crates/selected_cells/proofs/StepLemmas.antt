@@ -2,7 +2,7 @@
 use Rattle.std.proofs.Common.{◌≡◌, ◌⊎◌, inl, inr, nat_lt, ℕ, zero, suc, ◌+◌, ◌<◌, ◌≤◌, Bool, true, false, List, [], ◌∷◌, ◌++◌, length, get_or, set, take, Option, Some, None, refl, sym, ap, subst, ◌∙◌, add-one, arith}
 use Rattle.std.specs.Prelude.{slice_get}
 use Rattle.std.specs.List.{AllZip, sum_by}
-use Rattle.std.proofs.lemmas.List.Sums.{sum_by-append, sum_by-cons}
+use Rattle.std.proofs.lemmas.List.Sums.{sum_by-append, sum_by-cons, sum_by-set}
 use Rattle.std.proofs.lemmas.Option.{slice_get-get_or}
 use Rattle.stages.proofs.ListLemmas.{sum_by_taken}
 use Rattle.std.proofs.lemmas.Bool.{ltb-false, ltb-true}
@@ -136,3 +136,9 @@ words_more columns presents i column present there h k =
 -- a column that is read from a list
 pub read_at : {X : Type 0} (xs : List X) (i : ℕ) (x : X) → i < length xs → x ≡ get_or xs i x → slice_get xs i ≡ Some x
 read_at xs i x below is = slice_get-get_or xs i x below ∙ ap (λ y. Some y) (sym is)
+
+-- a walk that went on
+pub words_written : (presents : List (Option RunsLeft)) (place : ℕ) (old new : Option RunsLeft) → place < length presents → old ≡ get_or presents place old
+    → sum_by present_words (set presents place new) + present_words old ≡ sum_by present_words presents + present_words new
+words_written presents place old new below is =
+    ap (λ o. sum_by present_words (set presents place new) + present_words o) is ∙ sum_by-set present_words presents place new old below

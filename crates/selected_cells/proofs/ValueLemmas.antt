@@ -2,6 +2,7 @@
 use Rattle.std.proofs.Common.{◌≡◌, ℕ, zero, suc, ◌+◌, ◌-◌, ◌<◌, ◌≤◌, Bool, true, false, cond, List, [], ◌∷◌, length, get_or, map, take, drop, Option, Some, None, IsSome, MatchOption, unwrap_or, ℤ, pos, refl, sym, ap, subst, ◌∙◌, arith}
 use Rattle.std.proofs.lemmas.List.{drop-map, take-map}
 use Rattle.fb_outside.specs.Files.{Files}
+use Rattle.fb_outside.specs.Reads.{AddsOnly, Look}
 use Rattle.fb_types.specs.declared.cells.Cell.{Cell}
 use Rattle.fb_types.specs.declared.cells.Cell.TheVariants.{Null, Whole, Word}
 use Rattle.fb_types.specs.declared.schemas.Column.{Column}
@@ -23,6 +24,7 @@ use Rattle.two_stage.proofs.OpenLemmas.{mask_is}
 use Rattle.two_stage.proofs.PartFileLemmas.{has_numbers, has_texts, words_are}
 use Rattle.selected_cells.specs.Cells.{HasCells, HasValues, cells_between, present_cells, word_cell, word_or_null}
 use Rattle.selected_cells.specs.Items.{cell_at}
+use Rattle.selected_cells.specs.Reads.{look_of}
 use Rattle.selected_cells.specs.Runs.{records_between}
 use Rattle.selected_cells.specs.Opened.{IsColumnOf, IsValuesOf, mask_of}
 use Rattle.selected_cells.specs.declared.opened.SelectedColumn.{SelectedColumn}
@@ -181,3 +183,9 @@ unfolding column_at
 cells_of_records schema part col first past =
     let cell : List Cell → Cell = λ row. cell_at row (Some col) in
     ap (take (past - first)) (drop-map cell first part.records) ∙ take-map cell (past - first) (drop first part.records)
+
+-- ---- reads of an open column
+
+pub as_look : (column kind : SelectedColumn) (first past : ℕ) (old new : Option (List Look)) → column ≡ kind
+    → AddsOnly (λ look. look ≡ look_of kind first past) old new → AddsOnly (λ look. look ≡ look_of column first past) old new
+as_look column kind first past old new is h = subst (λ (col : SelectedColumn). AddsOnly (λ look. look ≡ look_of col first past) old new) (sym is) h

@@ -64,12 +64,12 @@ pub(crate) fn stored_cells<S: Store>(
     match column {
         SelectedColumn::Numbers(column) => {
             let numbers = &mut block[..count];
-            read_numbers(store, placed, column, span.first, numbers)?;
+            read_numbers(store, placed, column, span, numbers)?;
             Ok(whole_cells(alloc, numbers)?)
         }
         SelectedColumn::Words(codes, words) => {
             let numbers = &mut block[..count];
-            read_numbers(store, placed, codes, span.first, numbers)?;
+            read_numbers(store, placed, codes, span, numbers)?;
             Ok(word_cells(alloc, words, numbers)?)
         }
         SelectedColumn::Texts(text) => {
@@ -79,30 +79,32 @@ pub(crate) fn stored_cells<S: Store>(
     }
 }
 
-/// The numbers, or the codes, of as many rows as there is room for.
+/// The numbers, or the codes, of the rows.
 fn read_numbers<S: Store>(
     store: &mut S,
     placed: &PlacedColumn,
     column: &ColumnRef,
-    first: u32,
+    span: RowSpan,
     numbers: &mut [i128],
 ) -> Result<(), EvalFault>
     requires opened { IsNumbersOf (S.files store.old) placed.now column.now }
-    requires rows { first + length numbers.old ≤ placed.now.rows }
-    requires few { length numbers.old ≤ 4096 }
+    requires order { span.first < span.past }
+    requires few { span.past ≤ span.first + 4096 }
+    requires rows { span.past ≤ placed.now.rows }
+    requires room { length numbers.old ≡ span.past - span.first }
     ensures cause { HasCause (S.faults store.old) (S.faults store.new) (IsRefused result IsOfStore) }
     ensures files { SameFiles (S.files store.old) (S.files store.new) }
     ensures stop { IfErr result (StopsAt (S.files store.old) placed.now) }
-    ensures length { length numbers.new ≡ length numbers.old }
+    ensures length { length numbers.new ≡ span.past - span.first }
     ensures fit { OnOk result (All (λ number. ValueFits number column.now.ty) numbers.new) }
-    ensures reads { AddsOnly (λ look. look ≡ numbers_look column.now (first, first + length numbers.old)) (S.reads store.old) (S.reads store.new) }
-    ensures once { OnOk result (AddsAll (S.files store.old) (S.reads store.old) (S.reads store.new) (numbers_look column.now (first, first + length numbers.old) ∷ [])) }
+    ensures reads { AddsOnly (λ look. look ≡ numbers_look column.now (span.first, span.past)) (S.reads store.old) (S.reads store.new) }
+    ensures once { OnOk result (AddsAll (S.files store.old) (S.reads store.old) (S.reads store.new) (numbers_look column.now (span.first, span.past) ∷ [])) }
 
     // Where the values file has numbers.
-    ensures numbers { OnOk result ((all : List ℤ) → HasNumbers (S.files store.old) column.now all → numbers.new ≡ take (length numbers.old) (drop first all)) }
+    ensures numbers { OnOk result ((all : List ℤ) → HasNumbers (S.files store.old) column.now all → numbers.new ≡ take (span.past - span.first) (drop span.first all)) }
     ensures whole { IfErr result (λ fault. (all : List ℤ) → HasNumbers (S.files store.old) column.now all → IsOutside fault) }
 {
-    match read_rows(store, column, first, numbers) {
+    match read_rows(store, column, span.first, numbers) {
         Ok(()) => Ok(()),
         Err(fault) => Err(EvalFault::Col(placed.col, fault)),
     }

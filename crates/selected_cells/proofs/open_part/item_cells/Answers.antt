@@ -1,4 +1,4 @@
-use Rattle.std.proofs.Common.{◌≡◌, ℕ, ◌<◌, List, [], Option, Some, length, take, refl, sym, ap, subst, ◌∙◌, arith}
+use Rattle.std.proofs.Common.{◌≡◌, ℕ, ◌<◌, List, [], Option, Some, length, map, take, refl, sym, ap, subst, ◌∙◌, arith}
 use Rattle.std.specs.Prelude.{slice_get}
 use Rattle.fb_outside.specs.Reads.{Look}
 use Rattle.candidates.specs.Reads.{AddsAll}
@@ -6,7 +6,7 @@ use Rattle.candidates.proofs.FaultLemmas.{if_ok}
 use Rattle.query_grammar.specs.declared.picking.PickItem.{PickItem}
 use Rattle.query_engine.proofs.PartLemmas.{item_at}
 use Rattle.selected_cells.specs.Cells.{rows_items}
-use Rattle.selected_cells.specs.Items.{HasItem, column_of}
+use Rattle.selected_cells.specs.Items.{HasItem, cell_at, column_of}
 use Rattle.selected_cells.specs.Opened.{IsColumnOf, IsItemColumn, mask_of}
 use Rattle.selected_cells.specs.Reads.{looks_of_item}
 use Rattle.selected_cells.specs.Runs.{records_between}
@@ -37,9 +37,9 @@ returns-in_ok-nulls-in-Nothing-clause-cells g c = λ p picked at there are.
     let opened = c.requires.opened.each c.args.place picked c.at.result.now there c.at.ensures in
     c.in_ok-nulls-in-Nothing.ensures
     ∙ null_cells (g.S.Store.files c.args.store.now) part.dataset.now.dir part.meta.now (take c.args.place part.items.now) picked c.args.rows.now
-    (records_between p.records c.args.span.first c.args.span.past) _
+    (records_between p.records c.args.span.first c.args.span.past) (length c.args.rows.now)
     (subst (λ (col : ItemColumn). IsItemColumn (g.S.Store.files c.args.store.now) part.dataset.now.dir part.meta.now (take c.args.place part.items.now) (column_of picked) col) c.in-Nothing.is opened)
-    are ?
+    are refl
 
 -- ---- an earlier item of the same column
 
@@ -108,7 +108,11 @@ returns-in-Own-clause-reads g c =
     (g.S.Store.reads c.own_cells.new.store) (c.at.ensures ∙ ap (λ (col : ItemColumn). Some col) c.in-Own.is) c.own_cells.ensures.reads
 
 pub returns-in-Own-clause-once : goal.returns-in-Own-clause-once
-returns-in-Own-clause-once g c = ?
+returns-in-Own-clause-once g c =
+    if_ok c.own_cells.result _ _ (λ cells once column there.
+    let is = sym c.in-Own.is ∙ same_column c.args.part.now.columns.now c.args.place c.at.result.now column c.at.ensures there in
+    subst (λ (col : ItemColumn). AddsAll (g.S.Store.files c.args.store.now) (g.S.Store.reads c.args.store.now) (g.S.Store.reads c.own_cells.new.store)
+    (looks_of_item c.args.span.first c.args.span.past col)) is once) c.own_cells.ensures.once
 
 pub returns-in-Own-clause-step : goal.returns-in-Own-clause-step
 returns-in-Own-clause-step g c = λ column there.
@@ -116,4 +120,10 @@ returns-in-Own-clause-step g c = λ column there.
     subst (λ (col : ItemColumn). IsInStep c.args.span.past col c.own_cells.new.present) is c.own_cells.ensures.step
 
 pub returns-in-Own-clause-cells : goal.returns-in-Own-clause-cells
-returns-in-Own-clause-cells g c = ?
+returns-in-Own-clause-cells g c =
+    if_ok c.own_cells.result _ _ (λ cells said p picked at there are.
+    let part = c.args.part.now in
+    let opened = c.requires.opened.each c.args.place picked c.at.result.now there c.at.ensures in
+    let own = own_column (g.S.Store.files c.args.store.now) part.dataset.now.dir part.meta.now (take c.args.place part.items.now) (column_of picked) c.in-Own.col c.in-Own.column
+    (subst (λ (col : ItemColumn). IsItemColumn (g.S.Store.files c.args.store.now) part.dataset.now.dir part.meta.now (take c.args.place part.items.now) (column_of picked) col) c.in-Own.is opened) in
+    said p at ∙ ap (λ (o : Option ℕ). map (λ row. cell_at row o) (records_between p.records c.args.span.first c.args.span.past)) (sym own.0)) c.own_cells.ensures.cells

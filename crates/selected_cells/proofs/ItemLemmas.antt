@@ -169,3 +169,10 @@ begun_rows files dir meta part items first past rows at within is =
     let long : meta.rows ≡ length part.records = ap (λ (m : PartMeta). m.rows) at.is in
     is ∙ ap (λ n. replicate n []) (sym (between_long part.records first past (omega (arith, within, long))))
     ∙ no_cells (records_between part.records first past)
+
+pub begun_long : {A : Type 0} (count : ℕ) (rows : List (Vec Cell A)) → rows_items rows ≡ replicate count [] → length rows ≡ count
+begun_long count rows is = sym (length-map rows (λ row. row.items)) ∙ ap length is ∙ each count
+  where
+    each : (n : ℕ) → length (let none : List (List Cell) = replicate n [] in none) ≡ n
+    each zero = refl
+    each (suc n) = ap suc (each n)

@@ -172,7 +172,8 @@ pub record IsBlock (files : Option Files) (s : Selection) (room : ℕ) (old new 
 pub block_of : (files : Option Files) (s : Selection) (room : ℕ) (old new : List PartRun) (before rows : List (List Cell)) (reads now : Option (List Look))
     → before ≡ [] → Fills files s room old new before rows reads now → (length rows ≡ room) ⊎ (new ≡ []) → IsBlock files s room old new rows reads now
 block_of files s room old new before rows reads now none h ends =
-    let count : length rows ≡ rows_of_runs h.done = h.count ∙ ap (λ (l : List (List Cell)). length l + rows_of_runs h.done) none in
+    let no_row : length before ≡ 0 = ap length none in
+    let count : length rows ≡ rows_of_runs h.done = omega (arith, h.count, no_row) in
     let no_more = ended ends count in
     let all : h.done ≡ first_runs room old = sym (h.first ∙ ap (λ l. h.done ++ l) no_more.0 ∙ append-nil h.done) in
     record {

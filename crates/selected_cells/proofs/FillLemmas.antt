@@ -15,18 +15,20 @@ use Rattle.candidates.proofs.ReadLemmas.{adds_more, adds_none}
 use Rattle.stages.proofs.ListLemmas.{all_taken}
 use Rattle.world.specs.World.{Partition}
 use Rattle.dataset.specs.Opened.{IsDataset}
+use Rattle.dataset.specs.declared.content.Dataset.{Dataset}
 use Rattle.part_meaning.specs.Meaning.{IsPartAt}
 use Rattle.query_engine.specs.Damage.{NoDamage}
 use Rattle.query_engine.specs.Parts.{AreParts}
 use Rattle.query_engine.specs.declared.fault.AskFault.{AskFault}
-use Rattle.query_engine.proofs.PartLemmas.{part_at}
+use Rattle.query_engine.proofs.PartLemmas.{item_at, part_at, place_in_list}
 use Rattle.query_engine.proofs.NameLemmas.{either}
 use Rattle.selected_cells.specs.Items.{selected_cells}
-use Rattle.selected_cells.specs.Opened.{columns_at}
+use Rattle.selected_cells.specs.Opened.{AreOpenIn, IsListedPart, IsOpenedOf, columns_at}
 use Rattle.selected_cells.specs.Reads.{IsColumnsLook, IsRunLook, looks_of_columns, looks_over}
 use Rattle.selected_cells.specs.Runs.{PartRun, first_runs, later_runs, records_at, records_between, records_of_run, rows_of_runs, run_at, selected_over}
 use Rattle.selected_cells.specs.Spans.{AreRunsFrom, TakesSpan}
 use Rattle.selected_cells.specs.Walks.{Fills, Selection}
+use Rattle.selected_cells.specs.declared.open_part.OpenPart.{OpenPart}
 use Rattle.selected_cells.specs.declared.opened.ItemColumn.{ItemColumn}
 use Rattle.selected_cells.specs.declared.opened.SelectedPart.{SelectedPart}
 use Rattle.selected_cells.specs.declared.spans.RowSpan.{RowSpan}
@@ -150,3 +152,44 @@ pub no_damage_over : (files mid : Option Files) (s : Selection) (place : ℕ) (m
 no_damage_over files mid s place meta answer same valid listed none parts are =
     let p = part_at files s.dataset parts valid are place meta listed in
     none p.0 (subst (λ (f : Option Files). IsPartAt f s.dataset.dir meta p.0) (sym same) (are.each place meta p.0 listed p.1))
+
+-- ---- the part that is walked
+
+-- it is a part of the selection, with its open columns
+pub record HasPart (mid : Option Files) (s : Selection) (part : OpenPart) : Type 0 where
+  pub valid : IsDataset s.dataset
+  pub listed : slice_get s.dataset.parts part.place ≡ Some part.meta.now
+  pub open_part : SelectedPart
+  pub there : slice_get s.opened part.place ≡ Some open_part
+  pub columns : part.columns.now ≡ open_part.columns
+  pub opens : IsOpenedOf mid part.dataset.now.dir part.meta.now part.items.now part.columns.now
+  pub dataset : part.dataset.now ≡ s.dataset
+  pub items : part.items.now ≡ s.items
+
+here_by : (files mid : Option Files) (s : Selection) (part : OpenPart) (opened : List SelectedPart) → mid ≡ files → IsListedPart part
+    → record { dataset = part.dataset.now; items = part.items.now; opened = opened } ≡ s → part.columns.now ≡ columns_at (slice_get opened part.place)
+    → AreOpenIn files s.dataset s.items s.opened → HasPart mid s part
+here_by files mid s part opened same listed is columns open_in =
+    let dataset : part.dataset.now ≡ s.dataset = ap (λ (t : Selection). t.dataset) is in
+    let items : part.items.now ≡ s.items = ap (λ (t : Selection). t.items) is in
+    let opens = subst (λ (t : Selection). AreOpenIn files t.dataset t.items t.opened) (sym is) open_in in
+    let its = item_at opened part.place (omega (arith, place_in_list part.dataset.now.parts part.place part.meta.now listed.listed, opens.number)) in
+    let own : part.columns.now ≡ its.0.columns = columns ∙ ap columns_at its.1 in
+    let all = subst (λ (f : Option Files). IsOpenedOf f part.dataset.now.dir part.meta.now part.items.now its.0.columns) (sym same)
+    (opens.each part.place part.meta.now its.0 listed.listed its.1) in
+    record {
+      valid = subst (λ (d : Dataset). IsDataset d) dataset listed.valid;
+      listed = subst (λ (d : Dataset). slice_get d.parts part.place ≡ Some part.meta.now) dataset listed.listed;
+      open_part = its.0;
+      there = ap (λ (t : Selection). slice_get t.opened part.place) (sym is) ∙ its.1;
+      columns = own;
+      opens = subst (λ (cs : List ItemColumn). IsOpenedOf mid part.dataset.now.dir part.meta.now part.items.now cs) (sym own) all;
+      dataset = dataset;
+      items = items;
+    }
+
+pub here : (files mid : Option Files) (s : Selection) (begun part : OpenPart) (opened : List SelectedPart) → part ≡ begun → mid ≡ files → IsListedPart begun
+    → record { dataset = begun.dataset.now; items = begun.items.now; opened = opened } ≡ s → begun.columns.now ≡ columns_at (slice_get opened begun.place)
+    → AreOpenIn files s.dataset s.items s.opened → HasPart mid s part
+here files mid s begun part opened still same listed is columns open_in =
+    subst (λ (p : OpenPart). HasPart mid s p) (sym still) (here_by files mid s begun opened same listed is columns open_in)

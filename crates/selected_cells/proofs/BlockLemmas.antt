@@ -163,11 +163,11 @@ wanted_looks opened most room least old others then_ now is looks =
 -- ---- a block
 
 -- so many rows, or all that were left
-pub record IsBlock (files : Option Files) (s : Selection) (room : ℕ) (old new : List PartRun) (rows : List (List Cell)) (reads now : Option (List Look)) : Type 0 where
+pub record IsBlock (files : Option Files) (s : Selection) (room : ℕ) (old new : List PartRun) (filled : List (List Cell)) (reads now : Option (List Look)) : Type 0 where
   pub left : new ≡ later_runs room old
-  pub count : length rows ≡ min room (rows_of_runs old)
+  pub count : length filled ≡ min room (rows_of_runs old)
   pub each : AddsAll files reads now (looks_over s.opened (first_runs room old))
-  pub rows : (parts : List Partition) → AreParts files s.dataset parts → rows ≡ selected_over s.items parts (first_runs room old)
+  pub rows : (parts : List Partition) → AreParts files s.dataset parts → filled ≡ selected_over s.items parts (first_runs room old)
 
 pub block_of : (files : Option Files) (s : Selection) (room : ℕ) (old new : List PartRun) (before rows : List (List Cell)) (reads now : Option (List Look))
     → before ≡ [] → Fills files s room old new before rows reads now → (length rows ≡ room) ⊎ (new ≡ []) → IsBlock files s room old new rows reads now
@@ -194,7 +194,9 @@ block_of files s room old new before rows reads now none h ends =
 dropped : {X : Type 0} (n : ℕ) (xs : List X) (x : X) → slice_get xs n ≡ Some x → drop n xs ≡ x ∷ drop (n + 1) xs
 dropped n [] x h = absurd (cc)
 dropped zero (y ∷ xs) x h = let e : y ≡ x = cc in ap (λ z. z ∷ xs) e
-dropped (suc n) (y ∷ xs) x h = dropped n xs x h ∙ ap (λ k. x ∷ drop k (y ∷ xs)) (sym add-one)
+dropped (suc n) (y ∷ xs) x h =
+    let more : suc (n + 1) ≡ suc n + 1 = omega arith in
+    dropped n xs x h ∙ ap (λ (k : ℕ). x ∷ drop k (y ∷ xs)) more
 
 pub runs_of_next : (place : ℕ) (chosen : List (List Bool)) (rows : List Bool) → slice_get chosen place ≡ Some rows
     → runs_over place (drop place chosen) ≡ runs_in place rows ++ runs_over (place + 1) (drop (place + 1) chosen)

@@ -1,4 +1,4 @@
-use Rattle.std.proofs.Common.{◌≡◌, ℕ, ◌<◌, List, [], Option, Some, length, take, refl, sym, ap, subst, ◌∙◌, arith}
+use Rattle.std.proofs.Common.{◌≡◌, ℕ, ◌<◌, List, [], Option, Some, length, map, take, refl, sym, ap, subst, ◌∙◌, arith}
 use Rattle.std.specs.Prelude.{slice_get}
 use Rattle.fb_outside.specs.Reads.{Look}
 use Rattle.candidates.specs.Reads.{AddsAll}
@@ -6,9 +6,11 @@ use Rattle.candidates.proofs.FaultLemmas.{if_ok}
 use Rattle.query_grammar.specs.declared.picking.PickItem.{PickItem}
 use Rattle.query_engine.proofs.PartLemmas.{item_at}
 use Rattle.selected_cells.specs.Cells.{rows_items}
-use Rattle.selected_cells.specs.Items.{HasItem, column_of}
+use Rattle.world.specs.World.{Partition}
+use Rattle.part_meaning.specs.Meaning.{IsPartAt}
+use Rattle.selected_cells.specs.Items.{HasItem, cell_at, column_of, item_cell, selected_cells}
 use Rattle.selected_cells.specs.Opened.{IsColumnOf, IsItemColumn, mask_of}
-use Rattle.selected_cells.specs.Reads.{looks_of_item}
+use Rattle.selected_cells.specs.Reads.{looks_of, looks_of_item}
 use Rattle.selected_cells.specs.Runs.{records_between}
 use Rattle.selected_cells.specs.Walks.{IsInStep}
 use Rattle.selected_cells.specs.declared.opened.ItemColumn.{ItemColumn}
@@ -37,9 +39,9 @@ returns-in_ok-nulls-in-Nothing-clause-cells g c = λ p picked at there are.
     let opened = c.requires.opened.each c.args.place picked c.at.result.now there c.at.ensures in
     c.in_ok-nulls-in-Nothing.ensures
     ∙ null_cells (g.S.Store.files c.args.store.now) part.dataset.now.dir part.meta.now (take c.args.place part.items.now) picked c.args.rows.now
-    (records_between p.records c.args.span.first c.args.span.past) _
+    (records_between p.records c.args.span.first c.args.span.past) (length c.args.rows.now)
     (subst (λ (col : ItemColumn). IsItemColumn (g.S.Store.files c.args.store.now) part.dataset.now.dir part.meta.now (take c.args.place part.items.now) (column_of picked) col) c.in-Nothing.is opened)
-    are ?
+    are refl
 
 -- ---- an earlier item of the same column
 
@@ -108,7 +110,17 @@ returns-in-Own-clause-reads g c =
     (g.S.Store.reads c.own_cells.new.store) (c.at.ensures ∙ ap (λ (col : ItemColumn). Some col) c.in-Own.is) c.own_cells.ensures.reads
 
 pub returns-in-Own-clause-once : goal.returns-in-Own-clause-once
-returns-in-Own-clause-once g c = ?
+returns-in-Own-clause-once g c =
+    let files = g.S.Store.files c.args.store.now in
+    let old = g.S.Store.reads c.args.store.now in
+    let new = g.S.Store.reads c.own_cells.new.store in
+    let span = c.args.span in
+    if_ok c.own_cells.result (λ cells. AddsAll files old new (looks_of c.in-Own.column span.first span.past))
+    (λ cells. (column : ItemColumn) → slice_get c.args.part.now.columns.now c.args.place ≡ Some column → AddsAll files old new (looks_of_item span.first span.past column))
+    (λ cells read column there.
+        let is = sym c.in-Own.is ∙ same_column c.args.part.now.columns.now c.args.place c.at.result.now column c.at.ensures there in
+        subst (λ (col : ItemColumn). AddsAll files old new (looks_of_item span.first span.past col)) is read)
+    c.own_cells.ensures.once
 
 pub returns-in-Own-clause-step : goal.returns-in-Own-clause-step
 returns-in-Own-clause-step g c = λ column there.
@@ -116,4 +128,19 @@ returns-in-Own-clause-step g c = λ column there.
     subst (λ (col : ItemColumn). IsInStep c.args.span.past col c.own_cells.new.present) is c.own_cells.ensures.step
 
 pub returns-in-Own-clause-cells : goal.returns-in-Own-clause-cells
-returns-in-Own-clause-cells g c = ?
+returns-in-Own-clause-cells g c =
+    let files = g.S.Store.files c.args.store.now in
+    let part = c.args.part.now in
+    let span = c.args.span in
+    if_ok c.own_cells.result
+    (λ cells. (p : Partition) → IsPartAt files part.dataset.now.dir part.meta.now p
+        → cells.items ≡ map (λ row. cell_at row (Some c.in-Own.col)) (records_between p.records span.first span.past))
+    (λ cells. (p : Partition) (picked : PickItem) → IsPartAt files part.dataset.now.dir part.meta.now p → slice_get part.items.now c.args.place ≡ Some picked
+        → rows_items c.args.rows.now ≡ map (selected_cells (take c.args.place part.items.now)) (records_between p.records span.first span.past)
+        → cells.items ≡ map (item_cell picked) (records_between p.records span.first span.past))
+    (λ cells h p picked at there are.
+        let opened = c.requires.opened.each c.args.place picked c.at.result.now there c.at.ensures in
+        let own = own_column files part.dataset.now.dir part.meta.now (take c.args.place part.items.now) (column_of picked) c.in-Own.col c.in-Own.column
+            (subst (λ (col : ItemColumn). IsItemColumn files part.dataset.now.dir part.meta.now (take c.args.place part.items.now) (column_of picked) col) c.in-Own.is opened) in
+        h p at ∙ ap (λ (o : Option ℕ). map (λ row. cell_at row o) (records_between p.records span.first span.past)) (sym own.0))
+    c.own_cells.ensures.cells

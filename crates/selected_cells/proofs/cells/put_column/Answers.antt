@@ -1,4 +1,4 @@
-use Rattle.std.proofs.Common.{◌≡◌, ◌∷◌, ◌++◌, ◌+◌, ◌<◌, ◌≤◌, [], length, set, sym, ap, subst, ◌∙◌, arith, length-append}
+use Rattle.std.proofs.Common.{◌≡◌, ◌∷◌, ◌++◌, ◌+◌, ◌<◌, ◌≤◌, [], get_or, length, set, sym, ap, subst, ◌∙◌, arith, length-append}
 use Rattle.std.proofs.lemmas.List.{length-set}
 use Rattle.selected_cells.specs.Cells.{put_last, rows_items}
 use Rattle.selected_cells.proofs.CellLemmas.{cell_put}
@@ -15,7 +15,8 @@ loop-cell-preserved c =
     record {
       each = long ∙ before.each;
       few = omega (arith, long, all, before.few);
-      put = cell_put c.loop-cell.cells.items cells c.in-Some.cell rows c.index_mut.result.now c.push.new.self (omega (arith, all, before.few))
-          c.in-Some.ensures.items ? c.in_ok-push.ensures.items
+      put = subst (λ n. put_last cells (rows_items (set rows n c.push.new.self)) ≡ put_last c.loop-cell.cells.items (rows_items rows)) (sym at)
+          (cell_put c.loop-cell.cells.items cells c.in-Some.cell rows c.index_mut.result.now c.push.new.self (omega (arith, all, before.few))
+          c.in-Some.ensures.items (subst (λ n. c.index_mut.result.now ≡ get_or rows n c.index_mut.result.now) at c.index_mut.ensures.value) c.in_ok-push.ensures.items)
           ∙ before.put;
     }

@@ -167,7 +167,7 @@ pub record IsBlock (files : Option Files) (s : Selection) (room : ℕ) (old new 
   pub left : new ≡ later_runs room old
   pub count : length filled ≡ min room (rows_of_runs old)
   pub each : AddsAll files reads now (looks_over s.opened (first_runs room old))
-  pub rows : (parts : List Partition) → AreParts files s.dataset parts → filled ≡ selected_over s.items parts (first_runs room old)
+  pub true_to : (parts : List Partition) → AreParts files s.dataset parts → rows ≡ selected_over s.items parts (first_runs room old)
 
 pub block_of : (files : Option Files) (s : Selection) (room : ℕ) (old new : List PartRun) (before rows : List (List Cell)) (reads now : Option (List Look))
     → before ≡ [] → Fills files s room old new before rows reads now → (length rows ≡ room) ⊎ (new ≡ []) → IsBlock files s room old new rows reads now
@@ -179,7 +179,7 @@ block_of files s room old new before rows reads now none h ends =
       left = sym (h.later ∙ no_more.1);
       count = count ∙ ap rows_of_runs all ∙ rows_of_first room old;
       each = subst (λ (l : List PartRun). AddsAll files reads now (looks_over s.opened l)) all h.each;
-      rows = λ parts are. h.rows parts are ∙ ap (λ (l : List (List Cell)). l ++ selected_over s.items parts h.done) none ∙ ap (selected_over s.items parts) all;
+      true_to = λ parts are. h.rows parts are ∙ ap (λ (l : List (List Cell)). l ++ selected_over s.items parts h.done) none ∙ ap (selected_over s.items parts) all;
     }
   where
     ended : (length rows ≡ room) ⊎ (new ≡ []) → length rows ≡ rows_of_runs h.done
@@ -195,8 +195,8 @@ dropped : {X : Type 0} (n : ℕ) (xs : List X) (x : X) → slice_get xs n ≡ So
 dropped n [] x h = absurd (cc)
 dropped zero (y ∷ xs) x h = let e : y ≡ x = cc in ap (λ z. z ∷ xs) e
 dropped (suc n) (y ∷ xs) x h =
-    let more : suc (n + 1) ≡ suc n + 1 = omega arith in
-    dropped n xs x h ∙ ap (λ (k : ℕ). x ∷ drop k (y ∷ xs)) more
+    let next : suc (n + 1) ≡ suc n + 1 = omega arith in
+    dropped n xs x h ∙ ap (λ k. x ∷ drop k (y ∷ xs)) next
 
 pub runs_of_next : (place : ℕ) (chosen : List (List Bool)) (rows : List Bool) → slice_get chosen place ≡ Some rows
     → runs_over place (drop place chosen) ≡ runs_in place rows ++ runs_over (place + 1) (drop (place + 1) chosen)

@@ -1,7 +1,8 @@
 -- What is read of a column's files are its cells, null where a row has no value.
 use Rattle.std.proofs.Common.{◌≡◌, ℕ, zero, suc, ◌+◌, ◌-◌, ◌<◌, ◌≤◌, Bool, true, false, cond, List, [], ◌∷◌, length, get_or, map, take, drop, Option, Some, None, IsSome, MatchOption, unwrap_or, ℤ, pos, refl, sym, ap, subst, ◌∙◌, arith}
-use Rattle.std.proofs.lemmas.List.{drop-map, take-map}
+use Rattle.std.proofs.lemmas.List.{drop-map, length-take-le, take-map}
 use Rattle.fb_outside.specs.Files.{Files}
+use Rattle.fb_outside.specs.Reads.{AddsOnly, Look}
 use Rattle.fb_types.specs.declared.cells.Cell.{Cell}
 use Rattle.fb_types.specs.declared.cells.Cell.TheVariants.{Null, Whole, Word}
 use Rattle.fb_types.specs.declared.schemas.Column.{Column}
@@ -10,6 +11,9 @@ use Rattle.fb_types.specs.declared.types.ColType.TheVariants.{Byte, UByte, Short
 use Rattle.fb_types.specs.Cells.{CellFits}
 use Rattle.fb_types.specs.Types.{ends_of, width_of}
 use Rattle.part_meta.specs.declared.part.PartMeta.{PartMeta}
+use Rattle.candidates.specs.Numbers.{HasNumbers, numbers_look}
+use Rattle.column_file.specs.declared.column.ColumnRef.{ColumnRef}
+use Rattle.selected_cells.specs.Reads.{look_of}
 use Rattle.text_column.specs.Words.{code_in, word_in}
 use Rattle.text_column.proofs.DictionaryLemmas.{word_of_code}
 use Rattle.world.specs.Cells.{code_of, dictionary_of, is_present, number_of, stored_numbers, texts_of, word_of}
@@ -181,3 +185,22 @@ unfolding column_at
 cells_of_records schema part col first past =
     let cell : List Cell → Cell = λ row. cell_at row (Some col) in
     ap (take (past - first)) (drop-map cell first part.records) ∙ take-map cell (past - first) (drop first part.records)
+
+-- ---- as many numbers as rows
+
+span_long : (first past : ℕ) (block : List ℤ) → first < past → past ≤ first + 4096 → length block ≡ 4096 → length (take (past - first) block) ≡ past - first
+span_long first past block order few long = length-take-le (past - first) block (omega (arith, order, few, long))
+
+-- the read of so many numbers is that of the rows
+pub numbers_looked : (column : SelectedColumn) (codes : ColumnRef) (first past : ℕ) (block : List ℤ) (old new : Option (List Look))
+    → first < past → past ≤ first + 4096 → length block ≡ 4096 → ((a b : ℕ) → numbers_look codes (a, b) ≡ look_of column a b)
+    → AddsOnly (λ look. look ≡ numbers_look codes (first, first + length (take (past - first) block))) old new → AddsOnly (λ look. look ≡ look_of column first past) old new
+numbers_looked column codes first past block old new order few long alike h =
+    let size = span_long first past block order few long in
+    let end : first + length (take (past - first) block) ≡ past = omega (arith, size, order) in
+    let is : numbers_look codes (first, first + length (take (past - first) block)) ≡ look_of column first past = ap (λ n. numbers_look codes (first, n)) end ∙ alike first past in
+    subst (λ (l : Look). AddsOnly (λ look. look ≡ l) old new) is h
+
+pub numbers_read : (first past : ℕ) (block numbers all : List ℤ) → first < past → past ≤ first + 4096 → length block ≡ 4096
+    → numbers ≡ take (length (take (past - first) block)) (drop first all) → numbers ≡ take (past - first) (drop first all)
+numbers_read first past block numbers all order few long h = h ∙ ap (λ n. take n (drop first all)) (span_long first past block order few long)

@@ -15,8 +15,8 @@ loop-cell-preserved c =
     record {
       each = long ∙ before.each;
       few = omega (arith, long, all, before.few);
-      put = subst (λ n. put_last cells (rows_items (set rows n c.push.new.self)) ≡ put_last c.loop-cell.cells.items (rows_items rows)) (sym at)
+      put = subst (λ n. put_last cells (rows_items (set rows n c.push.new.self)) ≡ put_last c.args.cells.items (rows_items c.args.rows.now.items)) (sym at)
           (cell_put c.loop-cell.cells.items cells c.in-Some.cell rows c.index_mut.result.now c.push.new.self (omega (arith, all, before.few))
-          c.in-Some.ensures.items (subst (λ n. c.index_mut.result.now ≡ get_or rows n c.index_mut.result.now) at c.index_mut.ensures.value) c.in_ok-push.ensures.items)
-          ∙ before.put;
+          c.in-Some.ensures.items (subst (λ n. c.index_mut.result.now ≡ get_or rows n c.index_mut.result.now) at c.index_mut.ensures.value) c.in_ok-push.ensures.items
+          ∙ before.put);
     }

@@ -4,10 +4,10 @@ use Rattle.fb_outside.specs.Reads.{Look}
 use Rattle.candidates.specs.Reads.{AddsAll}
 use Rattle.candidates.proofs.FaultLemmas.{if_ok}
 use Rattle.query_grammar.specs.declared.picking.PickItem.{PickItem}
+use Rattle.part_meaning.specs.Meaning.{IsPartAt}
+use Rattle.world.specs.World.{Partition}
 use Rattle.query_engine.proofs.PartLemmas.{item_at}
 use Rattle.selected_cells.specs.Cells.{rows_items}
-use Rattle.world.specs.World.{Partition}
-use Rattle.part_meaning.specs.Meaning.{IsPartAt}
 use Rattle.selected_cells.specs.Items.{HasItem, cell_at, column_of, item_cell, selected_cells}
 use Rattle.selected_cells.specs.Opened.{IsColumnOf, IsItemColumn, mask_of}
 use Rattle.selected_cells.specs.Reads.{looks_of, looks_of_item}
@@ -112,14 +112,15 @@ returns-in-Own-clause-reads g c =
 pub returns-in-Own-clause-once : goal.returns-in-Own-clause-once
 returns-in-Own-clause-once g c =
     let files = g.S.Store.files c.args.store.now in
-    let old = g.S.Store.reads c.args.store.now in
-    let new = g.S.Store.reads c.own_cells.new.store in
-    let span = c.args.span in
-    if_ok c.own_cells.result (λ cells. AddsAll files old new (looks_of c.in-Own.column span.first span.past))
-    (λ cells. (column : ItemColumn) → slice_get c.args.part.now.columns.now c.args.place ≡ Some column → AddsAll files old new (looks_of_item span.first span.past column))
-    (λ cells read column there.
-        let is = sym c.in-Own.is ∙ same_column c.args.part.now.columns.now c.args.place c.at.result.now column c.at.ensures there in
-        subst (λ (col : ItemColumn). AddsAll files old new (looks_of_item span.first span.past col)) is read)
+    let reads = g.S.Store.reads c.args.store.now in
+    let now = g.S.Store.reads c.own_cells.new.store in
+    let first = c.args.span.first in
+    let past = c.args.span.past in
+    if_ok c.own_cells.result (λ cells. AddsAll files reads now (looks_of c.in-Own.column first past))
+    (λ cells. (column : ItemColumn) → slice_get c.args.part.now.columns.now c.args.place ≡ Some column → AddsAll files reads now (looks_of_item first past column))
+    (λ cells h column there.
+    let is = sym c.in-Own.is ∙ same_column c.args.part.now.columns.now c.args.place c.at.result.now column c.at.ensures there in
+    subst (λ (col : ItemColumn). AddsAll files reads now (looks_of_item first past col)) is h)
     c.own_cells.ensures.once
 
 pub returns-in-Own-clause-step : goal.returns-in-Own-clause-step
@@ -131,16 +132,16 @@ pub returns-in-Own-clause-cells : goal.returns-in-Own-clause-cells
 returns-in-Own-clause-cells g c =
     let files = g.S.Store.files c.args.store.now in
     let part = c.args.part.now in
-    let span = c.args.span in
+    let first = c.args.span.first in
+    let past = c.args.span.past in
     if_ok c.own_cells.result
-    (λ cells. (p : Partition) → IsPartAt files part.dataset.now.dir part.meta.now p
-        → cells.items ≡ map (λ row. cell_at row (Some c.in-Own.col)) (records_between p.records span.first span.past))
+    (λ cells. (p : Partition) → IsPartAt files part.dataset.now.dir part.meta.now p → cells.items ≡ map (λ row. cell_at row (Some c.in-Own.col)) (records_between p.records first past))
     (λ cells. (p : Partition) (picked : PickItem) → IsPartAt files part.dataset.now.dir part.meta.now p → slice_get part.items.now c.args.place ≡ Some picked
-        → rows_items c.args.rows.now ≡ map (selected_cells (take c.args.place part.items.now)) (records_between p.records span.first span.past)
-        → cells.items ≡ map (item_cell picked) (records_between p.records span.first span.past))
+        → rows_items c.args.rows.now ≡ map (selected_cells (take c.args.place part.items.now)) (records_between p.records first past)
+        → cells.items ≡ map (item_cell picked) (records_between p.records first past))
     (λ cells h p picked at there are.
-        let opened = c.requires.opened.each c.args.place picked c.at.result.now there c.at.ensures in
-        let own = own_column files part.dataset.now.dir part.meta.now (take c.args.place part.items.now) (column_of picked) c.in-Own.col c.in-Own.column
-            (subst (λ (col : ItemColumn). IsItemColumn files part.dataset.now.dir part.meta.now (take c.args.place part.items.now) (column_of picked) col) c.in-Own.is opened) in
-        h p at ∙ ap (λ (o : Option ℕ). map (λ row. cell_at row o) (records_between p.records span.first span.past)) (sym own.0))
+    let opened = c.requires.opened.each c.args.place picked c.at.result.now there c.at.ensures in
+    let own = own_column files part.dataset.now.dir part.meta.now (take c.args.place part.items.now) (column_of picked) c.in-Own.col c.in-Own.column
+    (subst (λ (col : ItemColumn). IsItemColumn files part.dataset.now.dir part.meta.now (take c.args.place part.items.now) (column_of picked) col) c.in-Own.is opened) in
+    h p at ∙ ap (λ o. map (λ row. cell_at row o) (records_between p.records first past)) (sym own.0))
     c.own_cells.ensures.cells

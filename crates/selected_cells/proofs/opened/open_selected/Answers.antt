@@ -9,10 +9,10 @@ use Rattle.selected_cells.proofs.opened.open_selected.Goals as goal
 
 pub returns-in_err-columns-clause-looks : goal.returns-in_err-columns-clause-looks
 returns-in_err-columns-clause-looks g c =
-    AddsOnly-trans (IsOpening c.args.dataset.now c.args.items.now) (g.S.Store.reads c.args.store.now) (g.S.Store.reads c.loop-place.store)
-    (g.S.Store.reads c.open_in.new.store) c.loop-place.invariant.looked
-    (part_opens c.args.dataset.now c.loop-place.place c.listed_part-part.result.now c.args.items.now (g.S.Store.reads c.loop-place.store)
-    (g.S.Store.reads c.open_in.new.store) c.listed_part-part.ensures c.open_in.ensures.looks)
+    let mid = g.S.Store.reads c.loop-place.store in
+    let new = g.S.Store.reads c.open_in.new.store in
+    AddsOnly-trans (IsOpening c.args.dataset.now c.args.items.now) (g.S.Store.reads c.args.store.now) mid new c.loop-place.invariant.looked
+    (part_opens c.args.dataset.now c.loop-place.place c.listed_part-part.result.now c.args.items.now mid new c.listed_part-part.ensures c.open_in.ensures.looks)
 
 pub returns-in_err-columns-clause-whole : goal.returns-in_err-columns-clause-whole
 returns-in_err-columns-clause-whole g c =
@@ -26,29 +26,25 @@ returns-in_err-columns-clause-whole g c =
 
 pub returns-in_err-keep-clause-looks : goal.returns-in_err-keep-clause-looks
 returns-in_err-keep-clause-looks g c =
-    AddsOnly-trans (IsOpening c.args.dataset.now c.args.items.now) (g.S.Store.reads c.args.store.now) (g.S.Store.reads c.loop-place.store)
-    (g.S.Store.reads c.open_in.new.store) c.loop-place.invariant.looked
-    (part_opens c.args.dataset.now c.loop-place.place c.listed_part-part.result.now c.args.items.now (g.S.Store.reads c.loop-place.store)
-    (g.S.Store.reads c.open_in.new.store) c.listed_part-part.ensures c.open_in.ensures.looks)
+    let mid = g.S.Store.reads c.loop-place.store in
+    let new = g.S.Store.reads c.open_in.new.store in
+    AddsOnly-trans (IsOpening c.args.dataset.now c.args.items.now) (g.S.Store.reads c.args.store.now) mid new c.loop-place.invariant.looked
+    (part_opens c.args.dataset.now c.loop-place.place c.listed_part-part.result.now c.args.items.now mid new c.listed_part-part.ensures c.open_in.ensures.looks)
 
 pub loop-place-preserved : goal.loop-place-preserved
 loop-place-preserved g c =
     let files = g.S.Store.files c.args.store.now in
-    let mid = g.S.Store.files c.loop-place.store in
     let dataset = c.args.dataset.now in
     let items = c.args.items.now in
     let before = c.loop-place.invariant in
-    let place = c.loop-place.place in
-    let meta = c.listed_part-part.result.now in
-    let old = g.S.Store.reads c.args.store.now in
-    let then_ = g.S.Store.reads c.loop-place.store in
+    let mid = g.S.Store.reads c.loop-place.store in
     let new = g.S.Store.reads c.open_in.new.store in
     record {
       unfailed = (rw c.in_ok-columns.was at c.open_in.ensures.cause).told (λ e. cc) ∙ before.unfailed;
       kept = c.open_in.ensures.files ∙ before.kept;
-      looked = AddsOnly-trans (IsOpening dataset items) old then_ new before.looked
-          (part_opens dataset place meta items then_ new c.listed_part-part.ensures c.open_in.ensures.looks);
-      opened = subst (λ l. OpenTo files dataset items (place + 1) l) (sym c.in_ok-keep.ensures)
-          (open_more files mid dataset items place c.loop-place.opened meta (record { columns = c.in_ok-columns.columns }) before.kept c.listed_part-part.ensures before.opened
-          c.in_ok-columns.ensures.opened);
+      looked = AddsOnly-trans (IsOpening dataset items) (g.S.Store.reads c.args.store.now) mid new before.looked
+          (part_opens dataset c.loop-place.place c.listed_part-part.result.now items mid new c.listed_part-part.ensures c.open_in.ensures.looks);
+      opened = subst (OpenTo files dataset items (c.loop-place.place + 1)) (sym c.in_ok-keep.ensures)
+          (open_more files (g.S.Store.files c.loop-place.store) dataset items c.loop-place.place c.loop-place.opened c.listed_part-part.result.now (record { columns = c.in_ok-columns.columns })
+          before.kept c.listed_part-part.ensures before.opened c.in_ok-columns.ensures.opened);
     }

@@ -163,9 +163,9 @@ wanted_looks opened most room least old others then_ now is looks =
 -- ---- a block
 
 -- so many rows, or all that were left
-pub record IsBlock (files : Option Files) (s : Selection) (room : ℕ) (old new : List PartRun) (filled : List (List Cell)) (reads now : Option (List Look)) : Type 0 where
+pub record IsBlock (files : Option Files) (s : Selection) (room : ℕ) (old new : List PartRun) (rows : List (List Cell)) (reads now : Option (List Look)) : Type 0 where
   pub left : new ≡ later_runs room old
-  pub count : length filled ≡ min room (rows_of_runs old)
+  pub count : length rows ≡ min room (rows_of_runs old)
   pub each : AddsAll files reads now (looks_over s.opened (first_runs room old))
   pub true_to : (parts : List Partition) → AreParts files s.dataset parts → rows ≡ selected_over s.items parts (first_runs room old)
 

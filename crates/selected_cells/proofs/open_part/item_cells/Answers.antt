@@ -39,7 +39,7 @@ returns-in_ok-nulls-in-Nothing-clause-cells g c = λ p picked at there are.
     let opened = c.requires.opened.each c.args.place picked c.at.result.now there c.at.ensures in
     c.in_ok-nulls-in-Nothing.ensures
     ∙ null_cells (g.S.Store.files c.args.store.now) part.dataset.now.dir part.meta.now (take c.args.place part.items.now) picked c.args.rows.now
-    (records_between p.records c.args.span.first c.args.span.past) (length c.args.rows.now)
+    (records_between p.records c.args.span.first c.args.span.past) _
     (subst (λ (col : ItemColumn). IsItemColumn (g.S.Store.files c.args.store.now) part.dataset.now.dir part.meta.now (take c.args.place part.items.now) (column_of picked) col) c.in-Nothing.is opened)
     are refl
 

@@ -137,8 +137,8 @@ returns-in-Own-clause-cells g c =
     if_ok c.own_cells.result
     (λ cells. (p : Partition) → IsPartAt files part.dataset.now.dir part.meta.now p → cells.items ≡ map (λ row. cell_at row (Some c.in-Own.col)) (records_between p.records first past))
     (λ cells. (p : Partition) (picked : PickItem) → IsPartAt files part.dataset.now.dir part.meta.now p → slice_get part.items.now c.args.place ≡ Some picked
-        → rows_items c.args.rows.now ≡ map (selected_cells (take c.args.place part.items.now)) (records_between p.records first past)
-        → cells.items ≡ map (item_cell picked) (records_between p.records first past))
+    → rows_items c.args.rows.now ≡ map (selected_cells (take c.args.place part.items.now)) (records_between p.records first past)
+    → cells.items ≡ map (item_cell picked) (records_between p.records first past))
     (λ cells h p picked at there are.
     let opened = c.requires.opened.each c.args.place picked c.at.result.now there c.at.ensures in
     let own = own_column files part.dataset.now.dir part.meta.now (take c.args.place part.items.now) (column_of picked) c.in-Own.col c.in-Own.column

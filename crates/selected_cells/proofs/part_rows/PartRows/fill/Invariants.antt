@@ -7,8 +7,8 @@ use Rattle.selected_cells.specs.Runs.{first_runs, run_at}
 use Rattle.selected_cells.specs.Walks.{Fills, IsWalk, runs_at}
 use Rattle.selected_cells.proofs.part_rows.PartRows.fill.Given as goal
 
-abbrev pub invariant-loop-rows : goal.invariant-loop-rows
-invariant-loop-rows g l =
+abbrev pub invariant-loop-self : goal.invariant-loop-self
+invariant-loop-self g l =
     let files = g.S.Store.files l.fn.store in
     let s = l.fn.self.selection in
     let room = l.until - length l.fn.rows.items in
@@ -26,5 +26,5 @@ invariant-loop-rows g l =
       steps : l.steps + (l.self-inside.spans.words + sum_by present_words l.self-inside.presents.items) ≡ l.fn.steps + l.fn.self.words;
     }
 
-abbrev pub decreases-loop-rows : goal.decreases-loop-rows
-decreases-loop-rows g l = l.until - length l.rows.items
+abbrev pub decreases-loop-self : goal.decreases-loop-self
+decreases-loop-self g l = l.until - length l.rows.items

@@ -9,12 +9,11 @@ pub loop-column-preserved : goal.loop-column-preserved
 loop-column-preserved c =
     let columns = c.args.columns.now in
     let i = c.loop-column.column-index in
-    let before = c.loop-column.invariant in
-    let presents = c.loop-column.presents.items in
-    let there = read_at columns i c.column-item.result c.loop-column-test.true c.column-item.is in
+    let column = c.column-item.result in
+    let walks = c.loop-column.presents.items in
+    let there = read_at columns i column c.loop-column-test.true c.column-item.is in
+    let items = c.in_ok-push.ensures.items in
     record {
-      step = subst (λ l. AreInStep 0 (take (i + 1) columns) l) (sym c.in_ok-push.ensures.items)
-          (begun_more columns presents i c.column-item.result c.present_of.result there before.step c.present_of.ensures.step);
-      words = ap (λ l. sum_by present_words l) c.in_ok-push.ensures.items
-          ∙ words_more columns presents i c.column-item.result c.present_of.result there before.words c.present_of.ensures.words;
+      step = subst (AreInStep 0 (take (i + 1) columns)) (sym items) (begun_more columns walks i column c.present_of.result there c.loop-column.invariant.step c.present_of.ensures.step);
+      words = ap (sum_by present_words) items ∙ words_more columns walks i column c.present_of.result there c.loop-column.invariant.words c.present_of.ensures.words;
     }

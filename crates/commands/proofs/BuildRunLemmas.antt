@@ -27,10 +27,10 @@ use Rattle.ibis_build.specs.Columns.{chosen_columns}
 use Rattle.ibis_build.specs.Leaves.{LeavesBuilt, StandsWithin}
 use Rattle.ibis_build.proofs.ColumnLemmas.{asked-name}
 use Rattle.commands.specs.Command.{Builds}
-use Rattle.commands.specs.Reply.{is_fault}
+use Rattle.commands.specs.Reply.{Prints, is_fault}
 use Rattle.commands.specs.Effects.{IsAskedIndex, LeavesAfter}
 use Rattle.commands.specs.Causes.{told_of}
-use Rattle.commands.specs.Runs.{BuildRuns, Leaves, Prints, PrintsGiven, Replied, Runs, SaysSame, Stops, Unstored}
+use Rattle.commands.specs.Runs.{BuildRuns, Leaves, PrintsGiven, Replied, Runs, SaysSame, Stops, Unstored}
 use Rattle.commands.proofs.PrintLemmas.{not_read, some_input, some_told}
 use Rattle.commands.proofs.Refusals.{IsRefusal, IsRefusal-asked, IsRefusal-build}
 

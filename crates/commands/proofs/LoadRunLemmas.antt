@@ -24,9 +24,9 @@ use Rattle.ardea.proofs.LoadLemmas.{result_is}
 use Rattle.ardea.proofs.WorldLemmas.{StandsFor-cut, StandsFor-done, ends_kept, result_in_world}
 use Rattle.commands.specs.Command as command
 use Rattle.commands.specs.Command.{command_of, command_outcome}
-use Rattle.commands.specs.Reply.{is_fault}
+use Rattle.commands.specs.Reply.{Prints, is_fault}
 use Rattle.commands.specs.Effects.{IsOfCommand, LeavesAfter}
-use Rattle.commands.specs.Runs.{Cut, LoadRuns, LoadUnread, LoadUnstored, Loaded, Prints, Refuses, Replied, Runs, Stops, Unread, Unstored}
+use Rattle.commands.specs.Runs.{Cut, LoadRuns, LoadUnread, LoadUnstored, Loaded, Refuses, Replied, Runs, Stops, Unread, Unstored}
 use Rattle.commands.proofs.PrintLemmas.{not_read, some_input, some_told}
 use Rattle.commands.proofs.Refusals.{IsRefusal-load}
 use Rattle.commands.proofs.RunLemmas.{same_says}

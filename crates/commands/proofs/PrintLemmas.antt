@@ -10,12 +10,11 @@ use Rattle.statuses.specs.Outcome.{Outcome}
 use Rattle.world.specs.World.{World}
 use Rattle.world.specs.Stands.{StandsFor}
 use Rattle.world.specs.Effects.{Effect}
-use Rattle.commands.specs.Reply.{Replies, RepliesBy, is_fault}
+use Rattle.commands.specs.Reply.{Prints, Replies, RepliesBy, is_fault}
 use Rattle.commands.specs.Effects.{LeavesAfter}
 use Rattle.commands.specs.Command.{Command}
 use Rattle.commands.specs.Order.{Yields}
 use Rattle.commands.specs.Causes.{HasCauseIn, Says, SaysBy, is_silent}
-use Rattle.commands.specs.Runs.{Prints}
 
 -- a fault replies with a front of every text
 pub Replies-fault : (reply : Outcome) (status : Status) (old new : Option (List ℕ)) → is_fault status ≡ true → GrowsInPart old new reply.text

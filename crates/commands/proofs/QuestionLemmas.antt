@@ -1,98 +1,165 @@
 -- From what a question, an estimate or a listing gives to how the command ran.
-use Rattle.std.proofs.Common.{◌≡◌, ◌≢◌, ℕ, Bool, List, Option, Some, None, Result, Ok, Err, is_ok, true, false, refl, sym, ap, ◌∙◌, arith}
+use Rattle.std.proofs.Common.{◌≡◌, ◌≢◌, ◌⊎◌, inl, inr, ℕ, Bool, List, Option, Some, None, Result, Ok, Err, is_ok, true, false, refl, sym, ap, subst, arith}
 use Rattle.fb_outside.specs.Files.{Files}
 use Rattle.fb_outside.specs.Names.{IsPath}
 use Rattle.fb_outside.specs.Reads.{Look}
-use Rattle.fb_outside.specs.Streams.{ForSomeInput}
+use Rattle.fb_outside.specs.Streams.{ForSomeInput, Grows, GrowsInPart}
+use Rattle.fb_outside.proofs.StreamLemmas.{GrowsInPart-none}
 use Rattle.fb_outside.proofs.ReadLemmas.{AddsOnly-same, AddsReads-same, AddsReads-weaken}
-use Rattle.where_grammar.specs.declared.clause.Clause.{Clause}
-use Rattle.where_plan.specs.declared.plan.Plan.{Plan}
+use Rattle.query_grammar.specs.Language.{read_query}
 use Rattle.world.specs.World.{Content, Partition, World, content_at}
 use Rattle.world.specs.Stands.{Stands, StandsFor}
 use Rattle.dataset.specs.Found.{found_in}
 use Rattle.dataset.specs.Opened.{IsTextLook}
-use Rattle.dataset.specs.declared.content.Dataset.{Dataset}
-use Rattle.query_engine.specs.Reads.{is_allowed_over, is_free_over}
 use Rattle.stages.specs.Looks.{Looks}
 use Rattle.stages.specs.declared.walk.Bounds.{Bounds}
 use Rattle.statuses.specs.declared.Status.{Status}
-use Rattle.statuses.specs.declared.Status.TheVariants.{Done, StoreFault}
+use Rattle.statuses.specs.declared.Status.TheVariants.{Done, StoreFault, SinkFault, OutOfMemory}
 use Rattle.statuses.specs.Lines.{line_of}
 use Rattle.statuses.specs.Outcome.{Outcome, refused}
 use Rattle.ibis.proofs.ListingWorldLemmas.{list_is}
 use Rattle.ibis.specs.Listing.{ListComes, list_outcome, listed}
-use Rattle.ibis_answer.specs.Answer.{answer_text, asked_in, asked_of, between_in, between_line, counted_in, told}
-use Rattle.ibis_answer.specs.Causes.{Comes}
-use Rattle.ibis_answer.specs.Looks.{AddsAskedLooks, ReadsInWorld}
-use Rattle.ibis_answer.specs.Query.{read_clause}
-use Rattle.ibis_answer.specs.declared.answering.Counted.{Counted}
-use Rattle.commands.specs.Causes.{ComesTo, NumbersComeTo}
-use Rattle.commands.specs.Command.{Answers, Builds, Command, Estimates, Lists, Loads, Unknown, command_outcome}
+use Rattle.ibis_answer.specs.Answer.{Asking, asked_at, between_line, bounds_in, estimate_outcome, given_in, question_outcome, text_in, told}
+use Rattle.ibis_answer.specs.Causes.{BoundsCome, IsFrontOf, TextComes, WritesFront}
+use Rattle.ibis_answer.specs.Looks.{AddsGivenLooks, LooksInWorld, may_read, may_read_bounds}
+use Rattle.commands.specs.Causes.{ByFault, ByRefusal, ComesTo}
+use Rattle.commands.specs.Command.{Answers, Builds, Command, Estimates, Lists, Loads, Unknown}
 use Rattle.commands.specs.Looks.{ReadsAllowed, TakesSteps}
-use Rattle.commands.specs.Reply.{is_fault}
-use Rattle.commands.specs.Runs.{Prints, Replied, Runs, SaysSame, Unstored}
-use Rattle.commands.proofs.PrintLemmas.{some_input, some_told}
-use Rattle.commands.proofs.Refusals.{IsRefusal-answer, IsRefusal-list}
+use Rattle.commands.specs.Order.{Yields}
+use Rattle.commands.specs.Reply.{Prints, Replies, is_fault}
+use Rattle.commands.specs.Runs.{Early, Pieced, Replied, Runs, SaysSame, Stops, Unstored}
+use Rattle.commands.proofs.PrintLemmas.{some_input, some_told, yields_printed}
+use Rattle.commands.proofs.Refusals.{IsRefusal-bounds, IsRefusal-list, IsRefusal-text}
 use Rattle.commands.proofs.RunLemmas.{same_says}
 
--- ---- a question and an estimate
+-- ---- a question
 
--- a command that tells these numbers of a query in this text
-module _ {A : Type 0} (text : A → List ℕ) (numbers : Option Clause → Option Content → A) (dir query : List ℕ) (command : Command)
-    (is : (input : List ℕ) (w : World) → command_outcome command input w ≡ told text (asked_in numbers dir query w))
-    (comes_to : (left : Option (List ℕ)) (files : Option Files) (reply : Outcome) → NumbersComeTo text dir query files reply → ComesTo command left files reply)
-    (left : Option (List ℕ)) (files : Option Files) (before after : Option (List ℕ)) (status : Status) where
-  runs_with : (result : Result A Status) → Comes dir query files result → ((w : World) → StandsFor files w → result ≡ asked_in numbers dir query w)
-      → is_fault (told text result).status ≡ false → Prints (told text result).status (told text result).text before after status
-      → Runs command left files before after status
-  runs_with result comes world plain prints =
-      Replied (told text result) (comes_to left files (told text result) (record { result = result; comes = comes; is = refl }))
+-- all of it was printed
+whole_replies : (reply : Result (List ℕ) Status) (before after : Option (List ℕ)) → ((text : List ℕ) × (reply ≡ Ok text) × Grows before after text)
+    → Replies (told (λ (text : List ℕ). text) reply) Done before after
+whole_replies reply before after (text, is, grows) =
+    subst (λ (r : Result (List ℕ) Status). Replies (told (λ (text : List ℕ). text) r) Done before after) (sym is) (refl, grows)
+
+-- a front of it was
+front_part : (reply : Result (List ℕ) Status) (before after : Option (List ℕ)) → IsFrontOf reply before after
+    → GrowsInPart before after (told (λ (text : List ℕ). text) reply).text
+front_part (Ok text) before after part = part
+front_part (Err status) before after same = GrowsInPart-none before after (line_of status) same
+
+ok_front : (reply : Result (List ℕ) Status) (before after : Option (List ℕ)) → ((text : List ℕ) × (reply ≡ Ok text) × GrowsInPart before after text)
+    → IsFrontOf reply before after
+ok_front reply before after (text, is, part) = subst (λ (r : Result (List ℕ) Status). IsFrontOf r before after) (sym is) part
+
+declined : (reply : Result (List ℕ) Status) (refusal : Status) (before between : Option (List ℕ)) → (reply ≡ Err refusal) × (between ≡ before)
+    → refused refusal ≡ told (λ (text : List ℕ). text) reply
+declined reply refusal before between (is, same) = ap (told (λ (text : List ℕ). text)) (sym is)
+
+module _ (dir query : List ℕ) (tell : Bool) (left : Option (List ℕ)) (files : Option Files) (before : Option (List ℕ)) where
+  comes_to : (result : Result (List ℕ) Status) → TextComes dir query tell files result
+      → ComesTo (Answers dir query tell) left files (told (λ (text : List ℕ). text) result)
+  comes_to result comes = record { result = result; comes = comes; is = refl }
+
+  pub answer_tells : (after : Option (List ℕ)) → (text : List ℕ) × TextComes dir query tell files (Ok text) × Grows before after text
+      → ((w : World) → StandsFor files w → (text : List ℕ) × (given_in (text_in tell) dir query w ≡ Ok text) × Grows before after text)
+      → Runs (Answers dir query tell) left files before after Done
+  answer_tells after (text, comes, grows) world =
+      Pieced text (comes_to (Ok text) comes)
       (record {
         input = some_input left;
         told = some_told left;
-        holds = λ w h. same_says (told text result) (command_outcome command (some_input left) w) (ap (told text) (world w h) ∙ sym (is (some_input left) w));
+        holds = λ w h. whole_replies (given_in (text_in tell) dir query w) before after (world w h);
+      })
+      grows refl
+
+  -- it is refused, and nothing of it was printed before
+  pub answer_declines : (between after : Option (List ℕ)) (status refusal : Status) → TextComes dir query tell files (Err refusal) × (between ≡ before)
+      → ((w : World) → StandsFor files w → (given_in (text_in tell) dir query w ≡ Err refusal) × (between ≡ before))
+      → Prints refusal (line_of refusal) between after status → Runs (Answers dir query tell) left files before after status
+  answer_declines between after status refusal (comes, same) world prints =
+      Replied (refused refusal) (comes_to (Err refusal) comes)
+      (record {
+        input = some_input left;
+        told = some_told left;
+        holds = λ w h. same_says (refused refusal) (question_outcome dir query tell w) (declined (given_in (text_in tell) dir query w) refusal before between (world w h));
+      })
+      (IsRefusal-text dir query tell files refusal comes).no_fault
+      (subst (λ (b : Option (List ℕ)). Prints refusal (line_of refusal) b after status) same prints)
+
+  broken : (between after : Option (List ℕ)) (status refusal : Status) → TextComes dir query tell files (Err refusal)
+      → WritesFront dir query tell files before between → ((w : World) → StandsFor files w → ⊥)
+      → Prints refusal (line_of refusal) between after status → Runs (Answers dir query tell) left files before after status
+  broken between after status refusal comes (text, done, part) never prints =
+      Early (ByRefusal text refusal between (comes_to (Ok text) done) (comes_to (Err refusal) comes) part prints)
+      (record { input = some_input left; told = some_told left; holds = λ w h. absurd (never w h) })
+      (yields_printed (Answers dir query tell) left refusal (line_of refusal) status between after
+      (IsRefusal-text dir query tell files refusal comes).no_fault prints)
+
+  -- a damaged file was found behind a front of it
+  pub answer_broken : (between after : Option (List ℕ)) (status refusal : Status)
+      → TextComes dir query tell files (Err refusal) × WritesFront dir query tell files before between → ((w : World) → StandsFor files w → ⊥)
+      → Prints refusal (line_of refusal) between after status → Runs (Answers dir query tell) left files before after status
+  answer_broken between after status refusal (comes, front) never prints = broken between after status refusal comes front never prints
+
+  stopped : (after : Option (List ℕ)) (status : Status) → is_fault status ≡ true → Yields (Answers dir query tell) left status
+      → WritesFront dir query tell files before after → ((w : World) → StandsFor files w → IsFrontOf (given_in (text_in tell) dir query w) before after)
+      → Runs (Answers dir query tell) left files before after status
+  stopped after status fault yields (text, comes, part) world =
+      Early (ByFault text (comes_to (Ok text) comes) fault part)
+      (record {
+        input = some_input left;
+        told = some_told left;
+        holds = λ w h. (fault, front_part (given_in (text_in tell) dir query w) before after (world w h));
+      })
+      yields
+
+  pub answer_unstored : (after : Option (List ℕ)) → is_ok (read_query query) ≡ true → (after ≡ before) ⊎ WritesFront dir query tell files before after
+      → ((w : World) → StandsFor files w → IsFrontOf (given_in (text_in tell) dir query w) before after)
+      → Runs (Answers dir query tell) left files before after StoreFault
+  answer_unstored after asks (inl same) world =
+      Unstored (record { input = some_input left; told = some_told left; holds = asks }) same refl
+  answer_unstored after asks (inr front) world =
+      stopped after StoreFault refl (record { input = some_input left; told = some_told left; holds = asks }) front world
+
+  pub answer_unprinted : (after : Option (List ℕ)) → WritesFront dir query tell files before after
+      → ((w : World) → StandsFor files w → (text : List ℕ) × (given_in (text_in tell) dir query w ≡ Ok text) × GrowsInPart before after text)
+      → Runs (Answers dir query tell) left files before after SinkFault
+  answer_unprinted after front world =
+      stopped after SinkFault refl tt front (λ w h. ok_front (given_in (text_in tell) dir query w) before after (world w h))
+
+  pub answer_stops : (after : Option (List ℕ)) → (after ≡ before) ⊎ WritesFront dir query tell files before after
+      → ((w : World) → StandsFor files w → IsFrontOf (given_in (text_in tell) dir query w) before after)
+      → Runs (Answers dir query tell) left files before after OutOfMemory
+  answer_stops after (inl same) world = Stops same refl
+  answer_stops after (inr front) world = stopped after OutOfMemory refl tt front world
+
+-- ---- an estimate
+
+module _ (dir query : List ℕ) (left : Option (List ℕ)) (files : Option Files) (before after : Option (List ℕ)) (status : Status) where
+  runs_with : (result : Result Bounds Status) → BoundsCome dir query files result
+      → ((w : World) → StandsFor files w → result ≡ given_in bounds_in dir query w) → is_fault (told between_line result).status ≡ false
+      → Prints (told between_line result).status (told between_line result).text before after status → Runs (Estimates dir query) left files before after status
+  runs_with result comes world plain prints =
+      Replied (told between_line result) (record { result = result; comes = comes; is = refl })
+      (record {
+        input = some_input left;
+        told = some_told left;
+        holds = λ w h. same_says (told between_line result) (estimate_outcome dir query w) (ap (told between_line) (world w h));
       })
       plain prints
 
-  declines_with : (refusal : Status) → Comes {A = A} dir query files (Err refusal) → ((w : World) → StandsFor files w → Err refusal ≡ asked_in numbers dir query w)
-      → Prints refusal (line_of refusal) before after status → Runs command left files before after status
-  declines_with refusal comes world prints = runs_with (Err refusal) comes world (IsRefusal-answer dir query files refusal comes).no_fault prints
-
-module _ (dir query : List ℕ) (tell : Bool) (left : Option (List ℕ)) (files : Option Files) (before after : Option (List ℕ)) (status : Status) where
-  pub answer_tells : (counted : Counted) → Comes dir query files (Ok counted) → ((w : World) → StandsFor files w → Ok counted ≡ asked_in counted_in dir query w)
-      → Prints Done (answer_text tell counted) before after status → Runs (Answers dir query tell) left files before after status
-  answer_tells counted comes world prints =
-      runs_with (answer_text tell) counted_in dir query (Answers dir query tell) (λ input w. refl) (λ l f reply h. h) left files before after status
-      (Ok counted) comes world refl prints
-
-  pub answer_declines : (refusal : Status) → Comes {A = Counted} dir query files (Err refusal)
-      → ((w : World) → StandsFor files w → Err refusal ≡ asked_in counted_in dir query w)
-      → Prints refusal (line_of refusal) before after status → Runs (Answers dir query tell) left files before after status
-  answer_declines refusal comes world prints =
-      declines_with (answer_text tell) counted_in dir query (Answers dir query tell) (λ input w. refl) (λ l f reply h. h) left files before after status
-      refusal comes world prints
-
-pub answer_unstored : (dir query : List ℕ) (tell : Bool) (left : Option (List ℕ)) (files : Option Files) (before : Option (List ℕ))
-    → is_ok (read_clause query) ≡ true → Runs (Answers dir query tell) left files before before StoreFault
-answer_unstored dir query tell left files before asks =
-    Unstored (record { input = some_input left; told = some_told left; holds = asks }) refl refl
-
-module _ (dir query : List ℕ) (left : Option (List ℕ)) (files : Option Files) (before after : Option (List ℕ)) (status : Status) where
-  pub estimate_tells : (bounds : Bounds) → Comes dir query files (Ok bounds) → ((w : World) → StandsFor files w → Ok bounds ≡ asked_in between_in dir query w)
+  pub estimate_tells : (bounds : Bounds) → BoundsCome dir query files (Ok bounds)
+      → ((w : World) → StandsFor files w → Ok bounds ≡ given_in bounds_in dir query w)
       → Prints Done (between_line bounds) before after status → Runs (Estimates dir query) left files before after status
-  estimate_tells bounds comes world prints =
-      runs_with between_line between_in dir query (Estimates dir query) (λ input w. refl) (λ l f reply h. h) left files before after status
-      (Ok bounds) comes world refl prints
+  estimate_tells bounds comes world prints = runs_with (Ok bounds) comes world refl prints
 
-  pub estimate_declines : (refusal : Status) → Comes {A = Bounds} dir query files (Err refusal)
-      → ((w : World) → StandsFor files w → Err refusal ≡ asked_in between_in dir query w)
+  pub estimate_declines : (refusal : Status) → BoundsCome dir query files (Err refusal)
+      → ((w : World) → StandsFor files w → Err refusal ≡ given_in bounds_in dir query w)
       → Prints refusal (line_of refusal) before after status → Runs (Estimates dir query) left files before after status
   estimate_declines refusal comes world prints =
-      declines_with between_line between_in dir query (Estimates dir query) (λ input w. refl) (λ l f reply h. h) left files before after status
-      refusal comes world prints
+      runs_with (Err refusal) comes world (IsRefusal-bounds dir query files refusal comes).no_fault prints
 
 pub estimate_unstored : (dir query : List ℕ) (left : Option (List ℕ)) (files : Option Files) (before : Option (List ℕ))
-    → is_ok (read_clause query) ≡ true → Runs (Estimates dir query) left files before before StoreFault
+    → is_ok (read_query query) ≡ true → Runs (Estimates dir query) left files before before StoreFault
 estimate_unstored dir query left files before asks =
     Unstored (record { input = some_input left; told = some_told left; holds = asks }) refl refl
 
@@ -104,33 +171,33 @@ looks_later : (allowed is_bitmap : Look → Bool) (bitmaps : List Look) (done mo
 looks_later allowed is_bitmap bitmaps done more f added h =
     record { each = h.each; left = h.left; front = h.front; whole = λ is. h.whole (f is) }
 
-asked_later : (allowed : Dataset → List Partition → Plan → Look → Bool) (dir : List ℕ) (asked : Result (Option Clause) Status) (content : Option Content)
-    (old new : Option (List Look)) (done more : Type 0) → (more → done) → AddsAskedLooks allowed dir asked content old new done
-    → AddsAskedLooks allowed dir asked content old new more
-asked_later allowed dir (Ok clause) (Some content) old new done more f h =
+asked_later : (allowed : Asking → List Partition → Look → Bool) (dir : List ℕ) (asked : Result Asking Status) (content : Option Content)
+    (old new : Option (List Look)) (done more : Type 0) → (more → done) → AddsGivenLooks allowed dir asked content old new done
+    → AddsGivenLooks allowed dir asked content old new more
+asked_later allowed dir (Ok asking) (Some content) old new done more f h =
     AddsReads-weaken old new (looks_later _ _ _ done more f) h
-asked_later allowed dir (Ok clause) None old new done more f h = h
+asked_later allowed dir (Ok asking) None old new done more f h = h
 asked_later allowed dir (Err status) content old new done more f h = h
 
-pub reads_later : (allowed : Dataset → List Partition → Plan → Look → Bool) (dir query : List ℕ) (files : Option Files) (old new : Option (List Look))
-    (done more : Type 0) → (more → done) → ReadsInWorld allowed dir query files old new done → ReadsInWorld allowed dir query files old new more
+pub reads_later : (allowed : Asking → List Partition → Look → Bool) (dir query : List ℕ) (files : Option Files) (old new : Option (List Look))
+    (done more : Type 0) → (more → done) → LooksInWorld allowed dir query files old new done → LooksInWorld allowed dir query files old new more
 reads_later allowed dir query files old new done more f h =
-    λ w stands. asked_later allowed dir (asked_of dir query (found_in w dir)) (content_at w dir) old new done more f (h w stands)
+    λ w stands. asked_later allowed dir (asked_at dir query (found_in w dir)) (content_at w dir) old new done more f (h w stands)
 
 -- a call that read nothing, and wasn't done
-asked_none : (allowed : Dataset → List Partition → Plan → Look → Bool) (dir : List ℕ) (asked : Result (Option Clause) Status) (content : Option Content)
-    (reads : Option (List Look)) (done : Type 0) → (done → ⊥) → AddsAskedLooks allowed dir asked content reads reads done
-asked_none allowed dir (Ok clause) (Some content) reads done not_done =
+asked_none : (allowed : Asking → List Partition → Look → Bool) (dir : List ℕ) (asked : Result Asking Status) (content : Option Content)
+    (reads : Option (List Look)) (done : Type 0) → (done → ⊥) → AddsGivenLooks allowed dir asked content reads reads done
+asked_none allowed dir (Ok asking) (Some content) reads done not_done =
     AddsReads-same reads reads refl (record { each = tt; left = _; front = refl; whole = λ is. absurd (not_done is) })
-asked_none allowed dir (Ok clause) None reads done not_done = AddsOnly-same (IsTextLook dir) reads reads refl
+asked_none allowed dir (Ok asking) None reads done not_done = AddsOnly-same (IsTextLook dir) reads reads refl
 asked_none allowed dir (Err status) content reads done not_done = AddsOnly-same (IsTextLook dir) reads reads refl
 
 pub nothing_allowed : (command : Command) (files : Option Files) (reads : Option (List Look)) (status : Status) → status ≢ Done → ReadsAllowed command files reads reads status
 nothing_allowed (Loads load) files reads status other = tt
 nothing_allowed (Answers dir query tell) files reads status other =
-    λ w h. asked_none is_allowed_over dir (asked_of dir query (found_in w dir)) (content_at w dir) reads (status ≡ Done) other
+    λ w h. asked_none may_read dir (asked_at dir query (found_in w dir)) (content_at w dir) reads (status ≡ Done) other
 nothing_allowed (Estimates dir query) files reads status other =
-    λ w h. asked_none is_free_over dir (asked_of dir query (found_in w dir)) (content_at w dir) reads (status ≡ Done) other
+    λ w h. asked_none may_read_bounds dir (asked_at dir query (found_in w dir)) (content_at w dir) reads (status ≡ Done) other
 nothing_allowed (Builds dir text list) files reads status other = tt
 nothing_allowed (Lists dir) files reads status other = tt
 nothing_allowed Unknown files reads status other = tt

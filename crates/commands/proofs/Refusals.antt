@@ -8,11 +8,10 @@ use Rattle.fb_types.specs.SchemaText.{SchemaFault, items_of, read_schema}
 use Rattle.fb_types.specs.Table.{Table}
 use Rattle.csv_load.specs.Loaded.{Fault, loaded}
 use Rattle.command_words.specs.declared.Load.{Load}
-use Rattle.where_grammar.specs.declared.clause.Clause.{Clause}
 use Rattle.where_grammar.specs.declared.clause.QueryKind.{QueryKind}
-use Rattle.where_plan.specs.Refusals.{refusal_of}
 use Rattle.part_meta.specs.declared.catalog.Catalog.{Catalog}
 use Rattle.dataset.specs.Appended.{Refusal, SchemaDiffers, TooManyNumbers, TooManyParts, refusal}
+use Rattle.dataset.specs.Damage.{Damage}
 use Rattle.dataset.specs.Found.{Absent, Broken, Found, There}
 use Rattle.dataset.specs.declared.content.Dataset.{Dataset}
 use Rattle.dataset.specs.declared.fault.DamageKind.TheVariants.{Length}
@@ -28,9 +27,11 @@ use Rattle.index_spec.specs.declared.spec.Spec.{Spec}
 use Rattle.index_spec.specs.declared.spec.SpecKind.{SpecKind}
 use Rattle.index_spec.specs.declared.spec.SpecKind.TheVariants as spec
 use Rattle.statuses.specs.Opening.{damaged_status, dataset_or_refusal}
-use Rattle.ibis_answer.specs.Answer.{asked_of}
-use Rattle.ibis_answer.specs.Causes.{Comes, ComesBy}
-use Rattle.ibis_answer.specs.Query.{clause_or_refusal, fits_or_refusal, read_clause, resolved}
+use Rattle.ibis_answer.specs.Answer.{Asking, asked_at, asking_of}
+use Rattle.ibis_answer.specs.Causes.{BoundsCome, ComesAs, ComesTo, IsClauseDamaged, IsQueryDamaged, Shows, TextComes}
+use Rattle.ibis_answer.specs.Query.{fits_or_refused, misfit, query_in, query_or_refusal}
+use Rattle.query_grammar.specs.declared.query.Query.{Query}
+use Rattle.query_grammar.specs.Language.{read_query}
 use Rattle.ibis_build.specs.Builds as builds
 use Rattle.ibis_build.specs.Builds.{Asked, spec_or_refusal}
 use Rattle.ibis_build.specs.Causes.{BuildComes, BuildsBy, Damages, IsRefused, Passes}
@@ -146,38 +147,50 @@ dataset_so dir Absent = record { no_fault = refl; not_done = λ e. cc }
 dataset_so dir (There dataset) = tt
 dataset_so dir (Broken damage) = record { no_fault = refl; not_done = λ e. cc }
 
-clause_so : (r : Result (Option Clause) QueryKind) → FailsSo (clause_or_refusal r)
+query_so : (r : Result Query QueryKind) → FailsSo (query_or_refusal r)
 unfolding FailsSo
-clause_so (Ok clause) = tt
-clause_so (Err kind) = record { no_fault = refl; not_done = λ e. cc }
+query_so (Ok q) = tt
+query_so (Err kind) = record { no_fault = refl; not_done = λ e. cc }
 
-fits_so : (clause : Option Clause) (why : Option QueryKind) → FailsSo (fits_or_refusal clause why)
+fits_so : (q : Query) (why : Option QueryKind) → FailsSo (fits_or_refused q why)
 unfolding FailsSo
-fits_so clause None = tt
-fits_so clause (Some kind) = record { no_fault = refl; not_done = λ e. cc }
+fits_so q None = tt
+fits_so q (Some kind) = record { no_fault = refl; not_done = λ e. cc }
 
-asked_so : (dir query : List ℕ) (found : Found) → FailsSo (asked_of dir query found)
-unfolding asked_of
+asking_so : (dataset : Dataset) (r : Result Query Status) → FailsSo r → FailsSo (asking_of dataset r)
+unfolding FailsSo
+asking_so dataset (Ok q) h = tt
+asking_so dataset (Err status) h = h
+
+asked_so : (dir query : List ℕ) (found : Found) → FailsSo (asked_at dir query found)
+unfolding asked_at
 asked_so dir query found =
-    step (clause_or_refusal (read_clause query)) _ (clause_so (read_clause query))
-    (λ clause. step (dataset_or_refusal dir found) _ (dataset_so dir found)
-    (λ dataset. fits_so clause (refusal_of dataset.schema clause)))
+    step (query_or_refusal (read_query query)) _ (query_so (read_query query))
+    (λ q. step (dataset_or_refusal dir found) _ (dataset_so dir found)
+    (λ dataset. asking_so dataset (query_in dataset.schema q) (fits_so q (misfit dataset.schema q))))
 
-answer_by : (A : Type 0) (files : Option Files) (found : Found) (r : Result (Option Clause) Status) (status : Status) → FailsSo r
-    → ComesBy {A = A} files found r (Err status) → IsRefusal status
-answer_by A files found (Err why) status h comes =
+answer_by : {A : Type 0} (damaged : Asking → Damage → Type 0) (given : Asking → A → Type 0) (r : Result Asking Status) (status : Status) → FailsSo r
+    → ComesAs damaged given r (Err status) → IsRefusal status
+answer_by {A} damaged given (Err why) status h comes =
     let is : why ≡ status = let e : ◌≡◌ {A = Result A Status} (Err status) (Err why) = comes in cc in
-    subst IsRefusal is (at_refusal (Option Clause) why h)
-answer_by A files found (Ok clause) status h comes =
-    let found = comes.0 in
+    subst IsRefusal is (at_refusal Asking why h)
+answer_by {A} damaged given (Ok asking) status h (found, is, damages) =
     record {
-      no_fault = ap is_fault comes.1;
-      not_done = λ e. let bad : Damaged found.file found.kind found.want found.have ≡ Done = sym comes.1 ∙ e in cc;
+      no_fault = ap is_fault is;
+      not_done = λ e. let bad : Damaged found.file found.kind found.want found.have ≡ Done = sym is ∙ e in cc;
     }
 
-pub IsRefusal-answer : {A : Type 0} (dir query : List ℕ) (files : Option Files) (status : Status) → Comes {A = A} dir query files (Err status) → IsRefusal status
-IsRefusal-answer {A} dir query files status h =
-    answer_by A files h.found (asked_of dir query h.found) status (asked_so dir query h.found) h.comes
+pub IsRefusal-answer : {A : Type 0} (damaged : Asking → Damage → Type 0) (given : Asking → A → Type 0) (dir query : List ℕ) (files : Option Files)
+    (status : Status) → ComesTo damaged given dir query files (Err status) → IsRefusal status
+IsRefusal-answer damaged given dir query files status h =
+    answer_by damaged given (asked_at dir query h.found) status (asked_so dir query h.found) h.comes
+
+pub IsRefusal-text : (dir query : List ℕ) (tell : Bool) (files : Option Files) (status : Status) → TextComes dir query tell files (Err status)
+    → IsRefusal status
+IsRefusal-text dir query tell files status h = IsRefusal-answer (IsQueryDamaged files) (Shows tell) dir query files status h
+
+pub IsRefusal-bounds : (dir query : List ℕ) (files : Option Files) (status : Status) → BoundsCome dir query files (Err status) → IsRefusal status
+IsRefusal-bounds dir query files status h = IsRefusal-answer (IsClauseDamaged files) (λ asking bounds. Unit {0}) dir query files status h
 
 list_by : (files : Option Files) (r : Result Dataset Status) (status : Status) → FailsSo r → ListsBy files r (Err status) → IsRefusal status
 list_by files (Err why) status h is =

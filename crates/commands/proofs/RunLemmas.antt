@@ -15,15 +15,15 @@ use Rattle.statuses.specs.declared.Status.{Status}
 use Rattle.statuses.specs.declared.Status.TheVariants.{Done, Usage, ReadFault, StoreFault, SinkFault, OutOfMemory}
 use Rattle.statuses.specs.Lines.{line_of}
 use Rattle.statuses.specs.Outcome.{Outcome, refused}
-use Rattle.ibis_answer.specs.Answer.{answer_text, asked_in, between_in, between_line, counted_in, told}
+use Rattle.ibis_answer.specs.Answer.{between_line, bounds_in, given_in, text_in, told}
 use Rattle.ibis.specs.Listing.{list_outcome, list_result, listed}
 use Rattle.commands.specs.Command.{Answers, Builds, Command, Estimates, Lists, Loads, Unknown, command_of, command_of_task, command_outcome}
-use Rattle.commands.specs.Reply.{Replies, RepliesBy, is_fault}
+use Rattle.commands.specs.Reply.{Prints, Replies, RepliesBy, is_fault}
 use Rattle.commands.specs.Effects.{IsOfCommand, KeepsRefused, LeavesAfter}
-use Rattle.commands.specs.Causes.{ComesTo, HasCauseIn, Says, is_silent}
+use Rattle.commands.specs.Causes.{ByFault, ByRefusal, CommandSays, ComesTo, EndsEarly, EndsEarlyIn, HasCauseIn, Says, done_with, is_silent}
 use Rattle.commands.specs.Order.{Yields, asks_store, takes_input}
-use Rattle.commands.specs.Runs.{Leaves, Prints, Replied, Runs, SaysSame, Stops, Unread, Unstored}
-use Rattle.commands.proofs.PrintLemmas.{Replies-prints, Replies-quiet, cause_printed, not_read, says_printed, says_silent, some_input, some_told, yields_printed}
+use Rattle.commands.specs.Runs.{Early, Leaves, Pieced, Replied, Runs, SaysSame, Stops, Unread, Unstored}
+use Rattle.commands.proofs.PrintLemmas.{Replies-fault, Replies-prints, Replies-quiet, cause_printed, not_read, says_printed, says_silent, some_input, some_told, yields_printed}
 
 -- what says the same is the same reply
 pub same_says : (reply other : Outcome) → reply ≡ other → SaysSame reply other
@@ -36,6 +36,31 @@ replies_same reply other status before after same h = by (is_fault status) h
     by : (b : Bool) → RepliesBy b reply status before after → RepliesBy b other status before after
     by true part = subst (GrowsInPart before after) same.text part
     by false (is, grows) = (is ∙ same.status, subst (Grows before after) same.text grows)
+
+early_replies : (reply : Outcome) (status : Status) (before after : Option (List ℕ)) → (is_fault status ≡ true) × GrowsInPart before after reply.text
+    → Replies reply status before after
+early_replies reply status before after (fault, part) = Replies-fault reply status before after fault part
+
+-- a reply that was printed piece by piece
+pieced : (comes : Outcome → Type 0) (text : List ℕ) (status : Status) (before after : Option (List ℕ)) → comes (done_with text) → Grows before after text
+    → status ≡ Done → Says comes status before after
+pieced comes text status before after come grows is =
+    says_printed comes (done_with text) status before after come refl (inl (is, grows))
+
+-- a command that ended early ended with a fault, or with a refusal that it comes to
+early_cause : (comes : Outcome → Type 0) (status : Status) (before after : Option (List ℕ)) → EndsEarly comes status before after → HasCauseIn comes status
+early_cause comes status before after (ByFault text come fault part) = inl fault
+early_cause comes status before after (ByRefusal text refusal between come other part prints) =
+    cause_printed comes (refused refusal) status between after other prints
+
+early_cause_in : (command : Command) (comes : Outcome → Type 0) (status : Status) (before after : Option (List ℕ))
+    → EndsEarlyIn command comes status before after → HasCauseIn comes status
+early_cause_in (Loads load) comes status before after h = absurd h
+early_cause_in (Answers dir query tell) comes status before after h = early_cause comes status before after h
+early_cause_in (Estimates dir query) comes status before after h = absurd h
+early_cause_in (Builds dir text list) comes status before after h = absurd h
+early_cause_in (Lists dir) comes status before after h = absurd h
+early_cause_in Unknown comes status before after h = absurd h
 
 module _ (command : Command) (left : Option (List ℕ)) (files : Option Files) (before after : Option (List ℕ)) (status : Status) where
   quiet : (status : Status) → is_fault status ≡ true → after ≡ before
@@ -57,34 +82,52 @@ module _ (command : Command) (left : Option (List ℕ)) (files : Option Files) (
             λ w h. replies_same reply (command_outcome command world.input w) status before after (world.holds w h)
             (Replies-prints reply status before after plain prints);
       }
+  run_replies (Pieced text comes world grows is) = world
   run_replies (Unread takes same is) = quiet status (ap is_fault is) same
   run_replies (Unstored asks same is) = quiet status (ap is_fault is) same
   run_replies (Stops same is) = quiet status (ap is_fault is) same
+  run_replies (Early ends world yields) =
+      record {
+        input = world.input;
+        told = world.told;
+        holds = λ w h. early_replies (command_outcome command world.input w) status before after (world.holds w h);
+      }
 
   pub run_cause : Runs command left files before after status → HasCauseIn (ComesTo command left files) status
   run_cause (Replied reply comes world plain prints) = cause_printed (ComesTo command left files) reply status before after comes prints
+  run_cause (Pieced text comes world grows is) = inr (record { reply = done_with text; come = comes; is = is })
   run_cause (Unread takes same is) = inl (ap is_fault is)
   run_cause (Unstored asks same is) = inl (ap is_fault is)
   run_cause (Stops same is) = inl (ap is_fault is)
+  run_cause (Early ends world yields) = early_cause_in command (ComesTo command left files) status before after ends
 
-  pub run_says : Runs command left files before after status → Says (ComesTo command left files) status before after
-  run_says (Replied reply comes world plain prints) = says_printed (ComesTo command left files) reply status before after comes plain prints
-  run_says (Unread takes same is) = says_silent (ComesTo command left files) status before after (ap is_silent is) same
-  run_says (Unstored asks same is) = says_silent (ComesTo command left files) status before after (ap is_silent is) same
-  run_says (Stops same is) = says_silent (ComesTo command left files) status before after (ap is_silent is) same
+  pub run_says : Runs command left files before after status → CommandSays command left files status before after
+  run_says (Replied reply comes world plain prints) =
+      inl (says_printed (ComesTo command left files) reply status before after comes plain prints)
+  run_says (Pieced text comes world grows is) = inl (pieced (ComesTo command left files) text status before after comes grows is)
+  run_says (Unread takes same is) = inl (says_silent (ComesTo command left files) status before after (ap is_silent is) same)
+  run_says (Unstored asks same is) = inl (says_silent (ComesTo command left files) status before after (ap is_silent is) same)
+  run_says (Stops same is) = inl (says_silent (ComesTo command left files) status before after (ap is_silent is) same)
+  run_says (Early ends world yields) = inr ends
 
   pub run_yields : Runs command left files before after status → Yields command left status
   run_yields (Replied reply comes world plain prints) = yields_printed command left reply.status reply.text status before after plain prints
+  run_yields (Pieced text comes world grows is) = subst (Yields command left) (sym is) tt
   run_yields (Unread takes same is) = subst (Yields command left) (sym is) takes
   run_yields (Unstored asks same is) = subst (Yields command left) (sym is) asks
   run_yields (Stops same is) = subst (Yields command left) (sym is) tt
+  run_yields (Early ends world yields) = yields
 
   -- a command that takes no input isn't stopped by it
   pub run_unread : takes_input command ≡ false → Runs command left files before after status → status ≢ ReadFault
   run_unread none (Replied reply comes world plain prints) e = not_read reply.status reply.text before after status plain prints e
+  run_unread none (Pieced text comes world grows is) e = let bad : Done ≡ ReadFault = sym is ∙ e in cc
   run_unread none (Unread takes same is) e = let bad : false ≡ true = sym none ∙ takes in cc
   run_unread none (Unstored asks same is) e = let bad : StoreFault ≡ ReadFault = sym is ∙ e in cc
   run_unread none (Stops same is) e = let bad : OutOfMemory ≡ ReadFault = sym is ∙ e in cc
+  run_unread none (Early ends world yields) e =
+      let takes : takes_input command ≡ true = subst (Yields command left) e yields in
+      let bad : false ≡ true = sym none ∙ takes in cc
 
 -- ---- commands that change no file
 
@@ -107,8 +150,8 @@ listed_none (Err status) = refl
 pub no_effects : (command : Command) (input : List ℕ) (w : World) → IsQuestion command → (command_outcome command input w).effects ≡ []
 unfolding IsQuestion
 no_effects (Loads load) input w h = absurd h
-no_effects (Answers dir query tell) input w h = told_none (answer_text tell) (asked_in counted_in dir query w)
-no_effects (Estimates dir query) input w h = told_none between_line (asked_in between_in dir query w)
+no_effects (Answers dir query tell) input w h = told_none (λ (text : List ℕ). text) (given_in (text_in tell) dir query w)
+no_effects (Estimates dir query) input w h = told_none between_line (given_in bounds_in dir query w)
 no_effects (Builds dir text list) input w h = absurd h
 no_effects (Lists dir) input w h = listed_none (list_result dir (found_in w dir) (content_at w dir))
 no_effects Unknown input w h = refl
@@ -178,7 +221,7 @@ module _ (job : Option Job) (command : Command) (is : command_of job ≡ command
   pub call_cause : HasCauseIn (ComesTo (command_of job) left files) status
   call_cause = rw is (run_cause command left files before after status runs)
 
-  pub call_says : Says (ComesTo (command_of job) left files) status before after
+  pub call_says : CommandSays (command_of job) left files status before after
   call_says = rw is (run_says command left files before after status runs)
 
   pub call_yields : Yields (command_of job) left status

@@ -7,9 +7,7 @@ use Rattle.command_words.specs.declared.Load.{Load}
 use Rattle.statuses.specs.declared.Status.{Status}
 use Rattle.statuses.specs.declared.Status.TheVariants.{Done, Usage, ReadFault, StoreFault, OutOfMemory}
 use Rattle.statuses.specs.Lines.{line_of}
-use Rattle.statuses.specs.Opening.{damaged_status}
 use Rattle.statuses.specs.Outcome.{Outcome, refused}
-use Rattle.dataset.specs.Damage.{Damage}
 use Rattle.stages.specs.declared.walk.Bounds.{Bounds}
 use Rattle.ardea.specs.Load.{Gives, outcome_of}
 use Rattle.ibis.specs.Listing.{ListComes, listed}
@@ -101,13 +99,12 @@ Says comes status old new = SaysBy (is_silent status) comes status old new
 abbrev pub done_with : List ℕ → Outcome
 done_with text = record { status = Done; text = text; effects = [] }
 
--- It ended behind a front of a text that it comes to: for a fault of the outside or want of memory, or for a file that turned out to
--- be damaged, whose line follows.
+-- It ended behind a front of a text that it comes to: for a fault of the outside or want of memory, or with a refusal that it comes to
+-- too, as for a file that turned out to be damaged, whose line follows.
 pub data EndsEarly (comes : Outcome → Type 0) (status : Status) (old new : Option (List ℕ)) : Type 0 where
   ByFault : (text : List ℕ) → comes (done_with text) → is_fault status ≡ true → GrowsInPart old new text → EndsEarly comes status old new
-  ByDamage : (text : List ℕ) (found : Damage) (between : Option (List ℕ)) → comes (done_with text) → comes (refused (damaged_status found))
-      → GrowsInPart old between text → Prints (damaged_status found) (line_of (damaged_status found)) between new status
-      → EndsEarly comes status old new
+  ByRefusal : (text : List ℕ) (refusal : Status) (between : Option (List ℕ)) → comes (done_with text) → comes (refused refusal)
+      → GrowsInPart old between text → Prints refusal (line_of refusal) between new status → EndsEarly comes status old new
 
 -- a question prints its rows as they are read
 abbrev pub EndsEarlyIn : Command → (Outcome → Type 0) → Status → Option (List ℕ) → Option (List ℕ) → Type 0

@@ -8,7 +8,7 @@ use Rattle.command_words.specs.declared.Load.{Load}
 use Rattle.part_meta.specs.declared.catalog.Catalog.{Catalog}
 use Rattle.dataset.specs.Appended.{append_files}
 use Rattle.statuses.specs.declared.Status.{Status}
-use Rattle.statuses.specs.declared.Status.TheVariants.{Done, ReadFault, StoreFault, SinkFault, OutOfMemory}
+use Rattle.statuses.specs.declared.Status.TheVariants.{Done, ReadFault, StoreFault, OutOfMemory}
 use Rattle.statuses.specs.declared.stop.Unanswered.{Unanswered}
 use Rattle.statuses.specs.declared.stop.Unanswered.TheVariants as unanswered
 use Rattle.statuses.specs.Lines.{line_of}
@@ -23,10 +23,10 @@ use Rattle.ibis_build.specs.Leaves.{LeavesBuilt}
 use Rattle.world.specs.World.{World}
 use Rattle.world.specs.Stands.{StandsFor}
 use Rattle.commands.specs.Command.{Command, command_outcome}
-use Rattle.commands.specs.Causes.{ComesTo, EndsEarlyIn}
+use Rattle.commands.specs.Causes.{ComesTo, EndsEarlyIn, done_with}
 use Rattle.commands.specs.Effects.{IsOfCommand, KeepsRefused, LeavesAfter}
 use Rattle.commands.specs.Order.{Yields, asks_store, takes_input}
-use Rattle.commands.specs.Reply.{Prints, is_fault}
+use Rattle.commands.specs.Reply.{Prints, Replies, is_fault}
 
 -- the same status and text
 pub record SaysSame (reply other : Outcome) : Type 0 where
@@ -38,15 +38,22 @@ abbrev pub IsReplyIn : Command → Option (List ℕ) → Option Files → Outcom
 IsReplyIn command left files reply =
     ForSomeInput left (λ input. (world : World) → StandsFor files world → SaysSame reply (command_outcome command input world))
 
+-- where the files stand for a world, the status and what was printed are the definition's
+abbrev pub RepliesIn : Command → Option (List ℕ) → Option Files → Status → (old new : Option (List ℕ)) → Type 0
+RepliesIn command left files status old new =
+    ForSomeInput left (λ input. (world : World) → StandsFor files world → Replies (command_outcome command input world) status old new)
+
 -- where the files stand for a world, a front of the definition's text was printed; or the files stand for none
 abbrev pub IsEarlyIn : Command → Option (List ℕ) → Option Files → Status → (old new : Option (List ℕ)) → Type 0
 IsEarlyIn command left files status old new =
     ForSomeInput left (λ input. (world : World) → StandsFor files world → (is_fault status ≡ true) × GrowsInPart old new (command_outcome command input world).text)
 
--- The command came to a reply, which was printed; or it stopped before it printed, or early while it did.
+-- The command came to a reply, which was printed at once, or piece by piece; or it stopped before it printed, or early while it did.
 pub data Runs (command : Command) (left : Option (List ℕ)) (files : Option Files) (before after : Option (List ℕ)) (status : Status) : Type 0 where
   Replied : (reply : Outcome) → ComesTo command left files reply → IsReplyIn command left files reply
       → is_fault reply.status ≡ false → Prints reply.status reply.text before after status → Runs command left files before after status
+  Pieced : (text : List ℕ) → ComesTo command left files (done_with text) → RepliesIn command left files status before after
+      → Grows before after text → status ≡ Done → Runs command left files before after status
   Unread : takes_input command ≡ true → after ≡ before → status ≡ ReadFault → Runs command left files before after status
   Unstored : ForSomeInput left (λ input. asks_store command input ≡ true) → after ≡ before → status ≡ StoreFault
       → Runs command left files before after status

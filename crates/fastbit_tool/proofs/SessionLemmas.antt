@@ -16,8 +16,7 @@ use Rattle.statuses.specs.Outcome.{Outcome, refused}
 use Rattle.commands.specs.Command.{command_outcome}
 use Rattle.commands.specs.Causes.{HasCauseIn, Printed, Says, SaysBy, is_silent}
 use Rattle.commands.specs.Effects.{LeavesAfter}
-use Rattle.commands.specs.Reply.{Replies, RepliesBy, is_fault}
-use Rattle.commands.specs.Runs.{Prints}
+use Rattle.commands.specs.Reply.{Prints, Replies, RepliesBy, is_fault}
 use Rattle.commands.proofs.PrintLemmas.{Replies-quiet, says_printed, some_input, some_told}
 use Rattle.ardea.proofs.AnswerLemmas.{all_taken, came_short}
 use Rattle.fastbit_tool.specs.Requests.{IsOfAsked, OfSession, OnlyPrints, Refuses, Runs, SessionComesBy, SessionComesTo, SessionRuns, Unread}

@@ -1,7 +1,7 @@
 -- From how a request for indexes ran to what is said of the call.
-use Rattle.std.proofs.Common.{◌≡◌, ◌≢◌, ◌⊎◌, inl, inr, ◌<◌, ◌≤◌, ℕ, Bool, true, false, List, [], length, take, take_all, Option, Some, None, IfSome, is_ok, is_some, Result, Ok, Err, refl, sym, ap, subst, ◌∙◌, arith, le_refl}
-use Rattle.std.specs.Prelude.{IsErrOf, slice_get}
-use Rattle.fb_outside.specs.Files.{ChangesAmong, Files, SameFiles, told_at}
+use Rattle.std.proofs.Common.{◌≡◌, ◌≢◌, inl, inr, ℕ, true, false, List, length, take_all, Option, Some, None, is_ok, is_some, Result, Ok, Err, refl, sym, ap, subst, ◌∙◌, le_refl}
+use Rattle.std.specs.Prelude.{IsErrOf}
+use Rattle.fb_outside.specs.Files.{ChangesAmong, Files, told_at}
 use Rattle.fb_outside.proofs.FileLemmas.{ChangesAmong-same, ChangesAmong-weaken}
 use Rattle.index_spec.specs.Language.{spec_of}
 use Rattle.index_spec.specs.declared.spec.EncodingSpec.{EncodingSpec}
@@ -27,7 +27,7 @@ use Rattle.ibis_build.specs.Columns.{chosen_columns}
 use Rattle.ibis_build.specs.Leaves.{LeavesBuilt, StandsWithin}
 use Rattle.ibis_build.proofs.ColumnLemmas.{asked-name}
 use Rattle.commands.specs.Command.{Builds}
-use Rattle.commands.specs.Reply.{Prints, is_fault}
+use Rattle.commands.specs.Reply.{is_fault}
 use Rattle.commands.specs.Effects.{IsAskedIndex, LeavesAfter}
 use Rattle.commands.specs.Causes.{told_of}
 use Rattle.commands.specs.Runs.{BuildRuns, Leaves, PrintsGiven, Replied, Runs, SaysSame, Stops, Unstored}

@@ -1,5 +1,5 @@
 -- From how a load ran to what is said of the call.
-use Rattle.std.proofs.Common.{◌≡◌, ◌≢◌, ◌⊎◌, inl, inr, ℕ, Bool, true, false, List, [], ◌∷◌, length, Option, Some, None, IfSome, is_ok, Result, Ok, Err, refl, sym, ap, subst, ◌∙◌, arith}
+use Rattle.std.proofs.Common.{◌≡◌, ◌≢◌, ◌⊎◌, inl, inr, ℕ, true, false, List, [], ◌∷◌, length, Option, Some, None, is_ok, Result, Ok, Err, refl, sym, ap, subst, ◌∙◌, arith}
 use Rattle.fb_outside.specs.Files.{ChangesAmong, Files, SameFiles}
 use Rattle.fb_outside.specs.Puts.{PutsAll}
 use Rattle.fb_outside.specs.Streams.{ForSomeInput}
@@ -14,9 +14,9 @@ use Rattle.world.specs.Stands.{Stands, StandsFor}
 use Rattle.world.specs.Effects.{Effect, Loads, after, after_one}
 use Rattle.dataset.specs.Appended.{append_files}
 use Rattle.statuses.specs.declared.Status.{Status}
-use Rattle.statuses.specs.declared.Status.TheVariants.{Done, ReadFault, StoreFault, SinkFault, OutOfMemory}
+use Rattle.statuses.specs.declared.Status.TheVariants.{Done, ReadFault, StoreFault, OutOfMemory}
 use Rattle.statuses.specs.declared.stop.Stop.TheVariants as stop
-use Rattle.statuses.specs.Outcome.{Outcome, refused}
+use Rattle.statuses.specs.Outcome.{Outcome}
 use Rattle.ardea.specs.Load.{Gives, load_outcome, load_schema, loaded_line, outcome_of}
 use Rattle.ardea.specs.Done.{GoesThrough, IsCut, IsDone}
 use Rattle.ardea.specs.Order.{load_takes_input, takes_by}

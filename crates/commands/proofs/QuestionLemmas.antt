@@ -8,7 +8,7 @@ use Rattle.fb_outside.proofs.StreamLemmas.{GrowsInPart-none}
 use Rattle.fb_outside.proofs.ReadLemmas.{AddsOnly-same, AddsReads-same, AddsReads-weaken}
 use Rattle.query_grammar.specs.Language.{read_query}
 use Rattle.world.specs.World.{Content, Partition, World, content_at}
-use Rattle.world.specs.Stands.{Stands, StandsFor}
+use Rattle.world.specs.Stands.{StandsFor}
 use Rattle.dataset.specs.Found.{found_in}
 use Rattle.dataset.specs.Opened.{IsTextLook}
 use Rattle.stages.specs.Looks.{Looks}
@@ -16,7 +16,7 @@ use Rattle.stages.specs.declared.walk.Bounds.{Bounds}
 use Rattle.statuses.specs.declared.Status.{Status}
 use Rattle.statuses.specs.declared.Status.TheVariants.{Done, StoreFault, SinkFault, OutOfMemory}
 use Rattle.statuses.specs.Lines.{line_of}
-use Rattle.statuses.specs.Outcome.{Outcome, refused}
+use Rattle.statuses.specs.Outcome.{refused}
 use Rattle.ibis.proofs.ListingWorldLemmas.{list_is}
 use Rattle.ibis.specs.Listing.{ListComes, list_outcome, listed}
 use Rattle.ibis_answer.specs.Answer.{Asking, asked_at, between_line, bounds_in, estimate_outcome, given_in, question_outcome, text_in, told}

@@ -9,7 +9,6 @@ use Rattle.fb_types.specs.Table.{Table}
 use Rattle.csv_load.specs.Loaded.{Fault, loaded}
 use Rattle.command_words.specs.declared.Load.{Load}
 use Rattle.where_grammar.specs.declared.clause.QueryKind.{QueryKind}
-use Rattle.part_meta.specs.declared.catalog.Catalog.{Catalog}
 use Rattle.dataset.specs.Appended.{Refusal, SchemaDiffers, TooManyNumbers, TooManyParts, refusal}
 use Rattle.dataset.specs.Damage.{Damage}
 use Rattle.dataset.specs.Found.{Absent, Broken, Found, There}
@@ -21,12 +20,12 @@ use Rattle.statuses.specs.declared.Status.TheVariants.{BadSpec, Damaged, Done, L
 use Rattle.statuses.specs.declared.Status.TheVariants as status
 use Rattle.statuses.specs.Outcome.{◌>>=◌}
 use Rattle.part_meta.specs.PartText.{most_rows}
-use Rattle.ardea.specs.Load.{Bytes, CutShort, Gives, NoFile, Reading, catalog_or_refusal, input_or_refusal, load_result, load_schema, load_table, most_input_bytes, reading_or_refusal, records_or_refusal, rows_or_refusal, schema_or_refusal, text_or_refusal, unless_refused, within_limit}
+use Rattle.ardea.specs.Load.{Bytes, CutShort, Gives, NoFile, Reading, catalog_or_refusal, load_result, load_schema, load_table, most_input_bytes, reading_or_refusal, records_or_refusal, schema_or_refusal, text_or_refusal, unless_refused}
 use Rattle.index_spec.specs.Language.{spec_of}
 use Rattle.index_spec.specs.declared.spec.Spec.{Spec}
 use Rattle.index_spec.specs.declared.spec.SpecKind.{SpecKind}
 use Rattle.index_spec.specs.declared.spec.SpecKind.TheVariants as spec
-use Rattle.statuses.specs.Opening.{damaged_status, dataset_or_refusal}
+use Rattle.statuses.specs.Opening.{dataset_or_refusal}
 use Rattle.ibis_answer.specs.Answer.{Asking, asked_at, asking_of}
 use Rattle.ibis_answer.specs.Causes.{BoundsCome, ComesAs, ComesTo, IsClauseDamaged, IsQueryDamaged, Shows, TextComes}
 use Rattle.ibis_answer.specs.Query.{fits_or_refused, misfit, query_in, query_or_refusal}

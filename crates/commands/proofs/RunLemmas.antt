@@ -1,5 +1,5 @@
 -- From how a command ran to what is said of its status and of what it printed.
-use Rattle.std.proofs.Common.{◌≡◌, ◌≢◌, ◌⊎◌, inl, inr, ℕ, Bool, true, false, List, [], length, Option, Some, None, IfSome, Result, Ok, Err, refl, sym, ap, subst, ◌∙◌, arith}
+use Rattle.std.proofs.Common.{◌≡◌, ◌≢◌, inl, inr, ℕ, Bool, true, false, List, [], Option, Some, Result, Ok, Err, refl, sym, ap, subst, ◌∙◌, arith}
 use Rattle.fb_outside.specs.Causes.{HasCause}
 use Rattle.fb_outside.specs.Files.{ChangesAmong, Files, SameFiles}
 use Rattle.fb_outside.proofs.FileLemmas.{ChangesAmong-same}
@@ -12,16 +12,16 @@ use Rattle.dataset.specs.Found.{found_in}
 use Rattle.world.specs.Stands.{StandsFor}
 use Rattle.world.specs.Effects.{Effect}
 use Rattle.statuses.specs.declared.Status.{Status}
-use Rattle.statuses.specs.declared.Status.TheVariants.{Done, Usage, ReadFault, StoreFault, SinkFault, OutOfMemory}
+use Rattle.statuses.specs.declared.Status.TheVariants.{Done, Usage, ReadFault, StoreFault, OutOfMemory}
 use Rattle.statuses.specs.Lines.{line_of}
 use Rattle.statuses.specs.Outcome.{Outcome, refused}
 use Rattle.ibis_answer.specs.Answer.{between_line, bounds_in, given_in, text_in, told}
-use Rattle.ibis.specs.Listing.{list_outcome, list_result, listed}
+use Rattle.ibis.specs.Listing.{list_result, listed}
 use Rattle.commands.specs.Command.{Answers, Builds, Command, Estimates, Lists, Loads, Unknown, command_of, command_of_task, command_outcome}
 use Rattle.commands.specs.Reply.{Prints, Replies, RepliesBy, is_fault}
 use Rattle.commands.specs.Effects.{IsOfCommand, KeepsRefused, LeavesAfter}
 use Rattle.commands.specs.Causes.{ByFault, ByRefusal, CommandSays, ComesTo, EndsEarly, EndsEarlyIn, HasCauseIn, Says, done_with, is_silent}
-use Rattle.commands.specs.Order.{Yields, asks_store, takes_input}
+use Rattle.commands.specs.Order.{Yields, takes_input}
 use Rattle.commands.specs.Runs.{Early, Leaves, Pieced, Replied, Runs, SaysSame, Stops, Unread, Unstored}
 use Rattle.commands.proofs.PrintLemmas.{Replies-fault, Replies-prints, Replies-quiet, cause_printed, not_read, says_printed, says_silent, some_input, some_told, yields_printed}
 

@@ -1,9 +1,9 @@
-use Rattle.std.proofs.Common.{◌≡◌, Option, Some, refl, ap, subst}
+use Rattle.std.proofs.Common.{Some, refl, ap, subst}
 use Rattle.command_words.specs.declared.Job.{Job}
 use Rattle.command_words.specs.Valid.{IsValid}
 use Rattle.commands.specs.Command.{Loads, Unknown, command_of, command_of_task}
 use Rattle.commands.proofs.RunLemmas.{call_cause, call_end, call_kept, call_leaves, call_read, call_refused, call_replies, call_says, call_yields, task_takes, unknown_leaves, usage_runs}
-use Rattle.commands.proofs.LoadRunLemmas.{call_load_keeps, call_load_leaves, load_ran, load_refused, names_none}
+use Rattle.commands.proofs.LoadRunLemmas.{call_load_keeps, call_load_leaves, load_ran}
 use Rattle.commands.proofs.run_job.Goals as goal
 
 pub returns-in-Ardea-clause-reply : goal.returns-in-Ardea-clause-reply

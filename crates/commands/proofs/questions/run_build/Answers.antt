@@ -1,4 +1,3 @@
-use Rattle.std.proofs.Common.{◌≡◌, refl}
 use Rattle.commands.proofs.PrintLemmas.{no_cause, not_store}
 use Rattle.commands.proofs.Refusals.{IsRefusal, IsRefusal-build}
 use Rattle.commands.proofs.questions.run_build.Goals as goal

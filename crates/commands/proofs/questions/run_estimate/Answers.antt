@@ -1,6 +1,5 @@
 use Rattle.std.proofs.Common.{◌≡◌, refl}
 use Rattle.ibis_answer.specs.Looks.{may_read_bounds}
-use Rattle.statuses.specs.declared.Status.{Status}
 use Rattle.statuses.specs.declared.Status.TheVariants.{Done, StoreFault, OutOfMemory}
 use Rattle.commands.proofs.PrintLemmas.{no_cause, not_done, not_store}
 use Rattle.commands.proofs.Refusals.{IsRefusal, IsRefusal-bounds}

@@ -73,7 +73,8 @@ pub invariant_of-self-in_err-cells : goal.invariant_of-self-in_err-cells
 invariant_of-self-in_err-cells g c =
     let inside = c.self.invariant in
     let listed = subst IsListedPart (sym c.loop-self.invariant.part) inside.0 in
-    let columns = subst (λ (p : OpenPart). p.columns.now ≡ columns_at (slice_get c.self.inside.opened.now p.place)) (sym c.loop-self.invariant.part) inside.1 in
+    let columns = subst (λ (p : OpenPart). p.columns.now ≡ columns_at (slice_get c.self.inside.opened.now p.place)) (sym c.loop-self.invariant.part) inside.1
+    ∙ ap (λ o. columns_at (slice_get o.now c.loop-self.self-inside.part.place)) (sym c.loop-self.invariant.opened) in
     let walk = c.loop-self.invariant.walk in
     let room_left = c.args.until - c.len-in-loop-self.result in
     let some : 0 < room_left = omega (arith, c.loop-self-test.true, c.len.ensures, c.len-in-loop-self.ensures) in
@@ -85,7 +86,8 @@ pub invariant_of-self-in_err-put_rows : goal.invariant_of-self-in_err-put_rows
 invariant_of-self-in_err-put_rows g c =
     let inside = c.self.invariant in
     let listed = subst IsListedPart (sym c.loop-self.invariant.part) inside.0 in
-    let columns = subst (λ (p : OpenPart). p.columns.now ≡ columns_at (slice_get c.self.inside.opened.now p.place)) (sym c.loop-self.invariant.part) inside.1 in
+    let columns = subst (λ (p : OpenPart). p.columns.now ≡ columns_at (slice_get c.self.inside.opened.now p.place)) (sym c.loop-self.invariant.part) inside.1
+    ∙ ap (λ o. columns_at (slice_get o.now c.loop-self.self-inside.part.place)) (sym c.loop-self.invariant.opened) in
     let walk = c.loop-self.invariant.walk in
     let room_left = c.args.until - c.len-in-loop-self.result in
     let some : 0 < room_left = omega (arith, c.loop-self-test.true, c.len.ensures, c.len-in-loop-self.ensures) in

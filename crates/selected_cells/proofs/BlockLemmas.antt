@@ -1,5 +1,5 @@
 -- Blocks of rows, which are put together of the rows of parts.
-use Rattle.std.proofs.Common.{◌≡◌, ◌⊎◌, inl, inr, ℕ, zero, suc, ◌+◌, ◌-◌, ◌<◌, ◌≤◌, Bool, List, [], ◌∷◌, ◌++◌, length, map, take, drop, min, Option, Some, None, IfSome, refl, sym, ap, subst, ◌∙◌, add-one, arith, append_assoc, append-nil, nat_le}
+use Rattle.std.proofs.Common.{◌≡◌, ◌⊎◌, inl, inr, ℕ, zero, suc, ◌+◌, ◌-◌, ◌<◌, ◌≤◌, Bool, true, false, MatchBool, List, [], ◌∷◌, ◌++◌, length, map, take, drop, min, Option, Some, None, IfSome, refl, sym, ap, subst, ◌∙◌, add-one, arith, append_assoc, append-nil, nat_le}
 use Rattle.std.specs.Prelude.{slice_get}
 use Rattle.std.specs.List.{flat_map, sum_by}
 use Rattle.std.proofs.lemmas.Bool.{leb-false, leb-true}
@@ -240,3 +240,8 @@ none_behind place chosen past = ap (runs_over place) (all_dropped place chosen p
     all_dropped (suc n) [] h = refl
     all_dropped zero (x ∷ xs) h = absurd (omega (arith, h))
     all_dropped (suc n) (x ∷ xs) h = all_dropped n xs (omega (arith, h))
+
+-- no more is read where a fill says so
+pub at_end : (more : Bool) (P Q : Type 0) → MatchBool more P Q → more ≡ false → Q
+at_end true P Q h e = absurd (cc)
+at_end false P Q h e = h

@@ -24,7 +24,7 @@ command_asked asked is = rw is refl
 
 pub quiet_prints : (asked : Asked) (left now : Option (List ℕ)) (outside : Outside) → AskedRuns asked left now outside outside OutOfMemory
 quiet_prints OfSession left now outside = Unread refl (inr refl)
-quiet_prints (Of command) left now outside = refl
+quiet_prints (Of command) left now outside = inl refl
 
 pub quiet_reads : (asked : Asked) (files : Option Files) (reads : Option (List Look)) → AskedReads asked files reads reads
 quiet_reads OfSession files reads = tt
@@ -53,7 +53,7 @@ quiet_command command left stands =
       replies = λ w h. Replies-quiet (command_outcome command [] w) OutOfMemory stands.written stands.written refl refl;
       leaves = λ w h. leaves_none (command_outcome command [] w).effects w OutOfMemory stands.files refl h;
       causes = inl refl;
-      prints = refl;
+      prints = inl refl;
       kept = ChangesAmong-same stands.files stands.files refl;
       refused = λ plain other. absurd (cc);
       reads = AddsOnly-same (IsLookOf command stands.files) stands.reads stands.reads refl;

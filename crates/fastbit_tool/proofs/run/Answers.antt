@@ -52,6 +52,12 @@ returns-in-Ok-2-clause-completeness g c =
     (g.K.Sink.faults c.args.out.now) (g.K.Sink.faults c.run_command.new.out)
     c.run_command.ensures.reply c.run_command.ensures.read_cause c.run_command.ensures.store_cause c.run_command.ensures.print_cause)
 
+pub returns-in-Ok-2-clause-prints : goal.returns-in-Ok-2-clause-prints
+returns-in-Ok-2-clause-prints g c =
+    let is : asked_of (asked_by c.args.words.now) ≡ Of (command_of c.in-Ok.asked) =
+    ap asked_of (sym c.in-Ok.ensures.request) ∙ command_asked c.in-Ok.asked (sym c.is_session.ensures ∙ c.if-is_session.false) in
+    rw is c.run_command.ensures.prints
+
 -- ---- memory ran out before it was known what is asked
 
 pub returns-in-Err-clause-reply : goal.returns-in-Err-clause-reply

@@ -4,7 +4,7 @@ use Rattle.std.specs.Prelude.{slice_get}
 use Rattle.std.specs.List.{flat_map, sum_by}
 use Rattle.std.proofs.lemmas.Bool.{leb-false, leb-true}
 use Rattle.std.proofs.lemmas.Grind.{flat_map-append}
-use Rattle.std.proofs.lemmas.List.{length-map, map-append}
+use Rattle.std.proofs.lemmas.List.{length-append, length-map, length-take, map-append}
 use Rattle.std.proofs.lemmas.List.Sums.{sum_by-append}
 use Rattle.fb_outside.specs.Files.{Files}
 use Rattle.fb_outside.specs.Reads.{AddsOnly, Look}
@@ -245,3 +245,37 @@ none_behind place chosen past = ap (runs_over place) (all_dropped place chosen p
 pub at_end : (more : Bool) (P Q : Type 0) → MatchBool more P Q → more ≡ false → Q
 at_end true P Q h e = absurd (cc)
 at_end false P Q h e = h
+
+-- ---- a fill of a block
+
+pub still_long : {X : Type 0} (n : ℕ) (new old : List X) → length new ≡ 4096 → length old ≡ 4096 → n ≡ 4096
+    → length (take n (new ++ drop (length new) old)) ≡ 4096
+still_long n new old long kept is =
+    let both = length-append new (drop (length new) old) in
+    length-take n (new ++ drop (length new) old) ∙ omega (arith, both, long, is)
+
+-- the block is full, or no more rows are wanted
+pub next_full : (most before after rows : ℕ) (runs : List PartRun) → after ≡ before + min most (4096 - before) → before ≤ 4096 → rows ≡ after
+    → (rows ≡ 4096) ⊎ (first_runs (most - (after - before)) runs ≡ [])
+next_full most before after rows runs is few same =
+    either (nat_le (4096 - before) most)
+    (λ t. inl (let fits = leb-true (4096 - before) most t in omega (arith, is, few, same, fits)))
+    (λ f. inr (let less = leb-false (4096 - before) most f in
+    let none : most - (after - before) ≡ 0 = omega (arith, is, less) in
+    ap (λ n. first_runs n runs) none ∙ first_none runs))
+
+pub next_none : (room : ℕ) (runs others : List PartRun) → runs ≡ [] → others ≡ [] → first_runs room (runs ++ others) ≡ []
+next_none room runs others none no_other =
+    ap (λ (l : List PartRun). first_runs room (l ++ others)) none ∙ ap (first_runs room) no_other ∙ first_of_none room
+
+-- no part is left
+pub at_last_part : (most before after until rows : ℕ) (runs others : List PartRun) → until ≡ before + min most (4096 - before) → before ≤ 4096 → rows ≡ after
+    → (rows ≡ until) ⊎ (runs ≡ []) → others ≡ [] → (rows ≡ 4096) ⊎ (first_runs (most - (after - before)) (runs ++ others) ≡ [])
+at_last_part most before after until rows runs others is few same (inl full) none =
+    next_full most before after rows (runs ++ others) (omega (arith, is, same, full)) few same
+at_last_part most before after until rows runs others is few same (inr over) none = inr (next_none (most - (after - before)) runs others over none)
+
+-- the part has no more rows, where there is still room
+pub walked : (rows until : ℕ) (runs : List PartRun) → (rows ≡ until) ⊎ (runs ≡ []) → (rows ≡ until → ⊥) → runs ≡ []
+walked rows until runs (inl full) not_full = absurd (not_full full)
+walked rows until runs (inr over) not_full = over
